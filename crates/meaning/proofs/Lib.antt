@@ -1,0 +1,15 @@
+pub mod Same
+pub mod Contraction
+pub mod Messages
+pub mod Enumeration
+pub mod Reading
+pub mod Test
+pub mod Truth
+pub mod Bisimulation
+pub mod Visits
+pub mod Judging
+pub mod Refusal
+pub mod Input
+pub mod Verdict
+pub mod Work
+pub mod Examples

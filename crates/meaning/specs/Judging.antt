@@ -1,0 +1,46 @@
+-- Judging a formula at a state in one pass: its truth, its count, and whether a visit met a limit ("Judging and its count").
+-- Assumes nothing.
+use Prim.Native.Nat.{ℕ, _+_}
+use mathlib.Core.Bool.{Bool, true, false, _&&_, _||_}
+use mathlib.Core.Bool
+use mathlib.Core.List.{List, [], _∷_, map}
+use Rattle.meaning.specs.Normal
+use Rattle.meaning.specs.Process.{Process}
+use Rattle.meaning.specs.Formula.{Formula}
+use Rattle.meaning.specs.State.{written}
+use Rattle.meaning.specs.Visits.{Arrival, startArrival, arrivals, at, meets}
+
+-- Truth, the number of visits, and whether one of them met a limit.
+pub record Judgement : Type 0 where
+  pub truth : Bool
+  pub count : ℕ
+  pub limited : Bool
+
+-- A visit that meets a limit counts 1 and goes no further; its truth is not used.
+abbrev pub visit : Bool → (Unit {0} → Judgement) → Judgement
+visit true further = record { truth = false; count = 1; limited = true }
+visit false further = further tt
+
+abbrev pub negated : Judgement → Judgement
+negated j = record { truth = Bool.not (j .truth); count = 1 + j .count; limited = j .limited }
+
+abbrev pub both : Judgement → Judgement → Judgement
+both j k = record { truth = j .truth && k .truth; count = 1 + j .count + k .count; limited = j .limited || k .limited }
+
+unfoldable pub someOf : List Judgement → Judgement
+someOf [] = record { truth = false; count = 1; limited = false }
+someOf (j ∷ js) =
+    let k = someOf js in
+    record { truth = j .truth || k .truth; count = j .count + k .count; limited = j .limited || k .limited }
+
+-- Each formula node is judged at a state, with no short cuts.
+unfoldable pub judge : Formula → Arrival → Judgement
+judge (Formula.equal M N) A =
+    visit (meets (at (Formula.equal M N) A))
+    (λ _. record { truth = Normal.equal (written (A .state .aliases) M) (written (A .state .aliases) N); count = 1; limited = false })
+judge (Formula.not F) A = visit (meets (at (Formula.not F) A)) (λ _. negated (judge F A))
+judge (Formula.and F G) A = visit (meets (at (Formula.and F G) A)) (λ _. both (judge F A) (judge G A))
+judge (Formula.step a F) A = visit (meets (at (Formula.step a F) A)) (λ _. someOf (map (judge F) (arrivals (A .state) a)))
+
+unfoldable pub judgeModel : Formula → Process → Judgement
+judgeModel F P = judge F (startArrival P)

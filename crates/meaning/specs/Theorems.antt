@@ -1,0 +1,139 @@
+-- The theorems, each stated over the definitions and nothing else. Their proofs are in proofs/, under the same names in lower
+-- case. Assumes nothing.
+use mathlib.Core.Path.{_≡_}
+use mathlib.Core.Logic.{_↔_, _⊎_}
+use mathlib.Core.Option.{some}
+use mathlib.Core.Bool.{false}
+use mathlib.Core.List.{List, [], _∷_}
+use Prim.Native.Nat.{ℕ, _+_, _≤_, _<_}
+use lib.Dec.{T}
+use lib.ListN.{length, getElem?}
+use Rattle.meaning.specs.Term.{Message}
+use Rattle.meaning.specs.Equation.{_≈_, Equal, Normal}
+use Rattle.meaning.specs.Normal.{normal, equal}
+use Rattle.meaning.specs.Process.{Process}
+use Rattle.meaning.specs.Formula.{Label, Formula}
+use Rattle.meaning.specs.Scope.{FormulaScoped}
+use Rattle.meaning.specs.WellFormed.{Bytes, IsModel, IsFormula}
+use Rattle.meaning.specs.Number.{found, refused}
+use Rattle.meaning.specs.Reading.{readModel, readFormula}
+use Rattle.meaning.specs.Refusal.{Refusal, process, formula}
+use Rattle.meaning.specs.Places.{Some, Every, OneToOne}
+use Rattle.meaning.specs.State.{Thread, State, start}
+use Rattle.meaning.specs.Freshness.{ThreadBelow, NamesMade}
+use Rattle.meaning.specs.Limits.{overOffers}
+use Rattle.meaning.specs.Step.{Step}
+use Rattle.meaning.specs.Enumeration.{steps}
+use Rattle.meaning.specs.Truth.{True, TrueOf, anyOf, holds}
+use Rattle.meaning.specs.Bisimulation.{outputs, Bisimulation}
+use Rattle.meaning.specs.Visits.{Arrival, meets, visits, countOf, MeetsNoLimit}
+use Rattle.meaning.specs.Judging.{judge}
+use Rattle.meaning.specs.Verdict.{workBytes, verdict, workAfter}
+
+-- Demand 2, messages: equal by the equations exactly when the normal forms are the same, and the test decides it.
+abbrev pub EqualByNormalForms : Type 0
+EqualByNormalForms = (m n : Message) → (m ≈ n) ↔ (normal m ≡ normal n)
+
+abbrev pub NormalForms : Type 0
+NormalForms = (m : Message) → Normal (normal m) × (normal m ≈ m)
+
+abbrev pub EqualityDecided : Type 0
+EqualityDecided = (m n : Message) → Equal m n ↔ T (equal m n)
+
+-- Reading succeeds exactly on the well-formed slices, to their end, and gives the one tree, whose encoding is the slice.
+abbrev pub ModelsRead : Type 0
+ModelsRead =
+    (s : List ℕ) (P : Process) → (IsModel s P → readModel s ≡ found P (length s))
+    × (Bytes s → (end : ℕ) → readModel s ≡ found P end → IsModel s P)
+
+abbrev pub FormulasRead : Type 0
+FormulasRead =
+    (s : List ℕ) (F : Formula) → (IsFormula s F → readFormula s ≡ found F (length s))
+    × (Bytes s → (end : ℕ) → readFormula s ≡ found F end → IsFormula s F)
+
+-- A slice is refused exactly as the rules say, by number and place.
+abbrev pub ModelsRefused : Type 0
+ModelsRefused =
+    (s : List ℕ) (number place : ℕ) → (readModel s ≡ refused number place) ↔ Refusal s (process 64 0) number place
+
+abbrev pub FormulasRefused : Type 0
+FormulasRefused =
+    (s : List ℕ) (number place : ℕ) → (readFormula s ≡ refused number place) ↔ Refusal s (formula 48 16 0) number place
+
+-- Demand 2, steps: the enumeration lists each derivation once and nothing else. Whatever property P of states is asked for,
+-- the derivations that lead to a state with P and the places of the list with P correspond one to one.
+abbrev pub StepsEnumerated : Type 1
+StepsEnumerated =
+    (S : State) (a : Label) (P : State → Type 0) → OneToOne ((T : State) × Step S a T × P T) (Some P (steps S a))
+
+-- Demand 2, truth: the evaluator agrees with the table.
+abbrev pub TruthEvaluated : Type 0
+TruthEvaluated = (F : Formula) (S : State) → True F S ↔ T (holds F S)
+
+-- Related states make the same formulas true.
+abbrev pub RelatedAgree {ℓ} : Type (ℓ + 1)
+RelatedAgree =
+    (R : State → State → Type ℓ) → Bisimulation R → (F : Formula) (S T : State) → R S T → FormulaScoped (outputs S) F
+    → True F S ↔ True F T
+
+-- Every state that is reached holds only private names that it has made.
+abbrev pub NamesAreMade : Type 0
+NamesAreMade =
+    ((P : Process) → NamesMade (start P)) × ((S T : State) (a : Label) → Step S a T → NamesMade S → NamesMade T)
+
+-- Whichever copy of a repl thread is opened, and however late, the same limits are met: `overOffers` may ask the first alone.
+abbrev pub CopiesAlike : Type 0
+CopiesAlike = (t : Thread) (n m : ℕ) → ThreadBelow n t → n ≤ m → overOffers t m ≡ overOffers t n
+
+-- Judging counts the visits, and says whether one of them met a limit.
+abbrev pub VisitsCounted : Type 0
+VisitsCounted =
+    (F : Formula) (A : Arrival) → (judge F A .count ≡ length (visits F A)) × (judge F A .limited ≡ anyOf meets (visits F A))
+
+-- Where no visit met a limit, the judged truth is the truth of the table.
+abbrev pub JudgedTruth : Type 0
+JudgedTruth =
+    (F : Formula) (A : Arrival) → Every (λ v. meets v ≡ false) (visits F A) → T (judge F A .truth) ↔ True F (A .state)
+
+-- Demand 3, first half: result 0 excludes every strong early bisimulation between the start states.
+abbrev pub AcceptedExcludes {ℓ} : Type (ℓ + 1)
+AcceptedExcludes =
+    (first second formula : List ℕ) (work budget : ℕ) → Bytes first → Bytes second → Bytes formula
+    → verdict first second formula work budget .result ≡ 0 → (P Q : Process) → IsModel first P → IsModel second Q
+    → (R : State → State → Type ℓ) → Bisimulation R → ¬ (R (start P) (start Q))
+
+-- Demand 3, second half: exactly when a finding is accepted.
+pub record Convincing (P Q : Process) (F : Formula) (budget : ℕ) : Type 0 where
+  pub true-of-first : TrueOf F P
+  pub false-of-second : ¬ (TrueOf F Q)
+  pub within-budget : countOf P Q F ≤ budget
+  pub unlimited : MeetsNoLimit P Q F
+
+pub record Acceptable (first second formula : List ℕ) (work budget : ℕ) : Type 0 where
+  pub P : Process
+  pub Q : Process
+  pub F : Formula
+  pub first-formed : IsModel first P
+  pub second-formed : IsModel second Q
+  pub formula-formed : IsFormula formula F
+  pub long-enough : workBytes ≤ work
+  pub convincing : Convincing P Q F budget
+
+abbrev pub AcceptedExactly : Type 0
+AcceptedExactly =
+    (first second formula : List ℕ) (work budget : ℕ) → Bytes first → Bytes second → Bytes formula
+    → (verdict first second formula work budget .result ≡ 0) ↔ Acceptable first second formula work budget
+
+-- Every work byte: untouched by the results 1 to 9; after 0 and after 10 to 13 the first 65,536 are 0, later ones unchanged.
+pub record Cleared (before after : List ℕ) : Type 0 where
+  pub as-long : length after ≡ length before
+  pub cleared : (i : ℕ) → i < workBytes → getElem? after i ≡ some 0
+  pub unchanged : (i : ℕ) → workBytes ≤ i → getElem? after i ≡ getElem? before i
+
+abbrev pub WorkBytesAfter : Type 0
+WorkBytesAfter =
+    (first second formula work : List ℕ) (budget : ℕ)
+    → (verdict first second formula (length work) budget .result ≤ 9 → 1 ≤ verdict first second formula (length work) budget .result
+    → workAfter first second formula work ≡ work)
+    × ((verdict first second formula (length work) budget .result ≡ 0) ⊎ (10 ≤ verdict first second formula (length work) budget .result)
+    → Cleared work (workAfter first second formula work))
