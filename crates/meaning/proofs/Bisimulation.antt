@@ -1,9 +1,9 @@
 -- Related states make the same formulas true, so a formula that tells two states apart excludes every strong early
 -- bisimulation that relates them ("Steps", last paragraph). Assumes nothing.
-use mathlib.Core.Path.{_≡_}
-use mathlib.Core.Logic.{∥∥₁-elim}
+use mathlib.Core.Path.{_≡_, refl, ap}
+use mathlib.Core.Logic.{Iff·rfl, ∥∥₁-elim}
 use mathlib.Core.List.{[], _∷_}
-use Prim.Native.Nat.{ℕ, _+_}
+use Prim.Native.Nat.{_+_}
 use native.Mathlib.Omega.{arith}
 use lib.Dec.{T-prop}
 use lib.ListN.{length, length-append}
@@ -14,7 +14,7 @@ use Rattle.meaning.specs.State.{Bound, _▸_, worked, State}
 use Rattle.meaning.specs.Step.{Step, output, input, silent}
 use Rattle.meaning.specs.Truth.{True, holds}
 use Rattle.meaning.specs.Bisimulation.{outputs, Matched, Bisimulation}
-use Rattle.meaning.specs.Theorems.{RelatedAgree}
+use Rattle.meaning.specs.Theorems.{RelatedAgree, EqualityBisimulates}
 use Rattle.meaning.proofs.Truth.{truthEvaluated}
 
 -- A step adds the aliases that its label binds.
@@ -57,3 +57,11 @@ relatedAgree R B (step a F) S U r scoped =
 pub excluded {ℓ} : (R : State → State → Type ℓ) → Bisimulation R → (F : Formula) (S U : State) → FormulaScoped (outputs S) F
     → True F S → ¬ (True F U) → ¬ (R S U)
 excluded R B F S U scoped h g r = g (relatedAgree R B F S U r scoped .0 h)
+
+pub equalityBisimulates : EqualityBisimulates
+equalityBisimulates = record {
+  as-many = λ S U e. ap outputs e;
+  static = λ S U e. rw e (λ M N m n. Iff·rfl);
+  forth = λ S U e a scoped S′ d. ∣ (S′, rw e at d, refl) ∣₁;
+  back = λ S U e a scoped U′ d. ∣ (U′, rw (← e) at d, refl) ∣₁;
+}

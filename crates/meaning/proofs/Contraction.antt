@@ -38,7 +38,7 @@ tested true sound = inl (sound tt)
 tested false sound = inr refl
 
 -- Either an equation is applied or nothing changes.
-contract-cases : (m : Message) → (m ⇝ contract m) ⊎ (contract m ≡ m)
+pub contract-cases : (m : Message) → (m ⇝ contract m) ⊎ (contract m ≡ m)
 unfolding project crypt build
 contract-cases (leaf a) = inr refl
 contract-cases (proj s (leaf a)) = inr refl

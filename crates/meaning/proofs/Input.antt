@@ -1,24 +1,79 @@
--- What becomes of an input: it is turned back by a number from 1 to 9, or all three slices are read ("Turned back for the
--- input"). Assumes nothing.
+-- What becomes of an input is what the rules say ("Turned back for the input"). Assumes nothing.
 use mathlib.Core.Path.{_≡_, refl, ap, _∙_}
 use mathlib.Core.Bool.{Bool, true, false}
 use mathlib.Core.List.{List}
 use Prim.Native.Nat.{ℕ, _≤_}
 use native.Mathlib.Omega.{arith}
-use lib.Dec.{ltb, nltb→le}
+use borrow.Author.Tests.{ltb-true, ltb-false, lt-ltb, le-ltb}
+use lib.Dec.{ltb}
 use Rattle.meaning.specs.Process.{Process}
 use Rattle.meaning.specs.Formula.{Formula}
-use Rattle.meaning.specs.WellFormed.{IsModel, IsFormula}
+use Rattle.meaning.specs.WellFormed.{Bytes, IsModel}
 use Rattle.meaning.specs.Number.{Read, found, refused}
 use Rattle.meaning.specs.Reading.{readModel, readFormula}
 use Rattle.meaning.specs.Refusal.{Field, Refusal, slice-too-long, ended-early, bad-form, unlisted-kind, name-over, out-of-scope, too-deep, left-over}
-use Rattle.meaning.specs.Verdict.{Input, good, bad, workBytes, withFormula, withSecond, withFirst, input}
-use Rattle.meaning.proofs.Test.{ltb-false}
+use Rattle.meaning.specs.Verdict.{Input, bad, workBytes, withFormula, withSecond, withFirst, input}
+use Rattle.meaning.specs.Answered.{Sorted, buffer-short, first-refused, second-refused, formula-refused, formed}
 use Rattle.meaning.proofs.Reading.{modelsRead, formulasRead}
 use Rattle.meaning.proofs.Refusal.{modelsRefused, formulasRefused}
 
--- A refusal's number.
-refusal-number : {s : List ℕ} {root : Field} {number place : ℕ} → Refusal s root number place → (1 ≤ number) × (number ≤ 9)
+module _ (s₁ s₂ s₃ : List ℕ) (work : ℕ) where
+  -- An input is sorted, slice by slice.
+  sort-formula : Bytes s₃ → {P Q : Process} → workBytes ≤ work → IsModel s₁ P → IsModel s₂ Q
+      → (r : Read Formula) → readFormula s₃ ≡ r → Sorted s₁ s₂ s₃ work (withFormula P Q r)
+  unfolding withFormula
+  sort-formula b₃ long p q (found F end) f =
+      formed (record { long-enough = long; first = p; second = q; third = formulasRead s₃ F .1 b₃ end f })
+  sort-formula b₃ long p q (refused number place) f = formula-refused long p q (formulasRefused s₃ number place .0 f)
+
+  sort-second : Bytes s₂ → Bytes s₃ → {P : Process} → workBytes ≤ work → IsModel s₁ P
+      → (r : Read Process) → readModel s₂ ≡ r → Sorted s₁ s₂ s₃ work (withSecond P r s₃)
+  unfolding withSecond
+  sort-second b₂ b₃ long p (found Q end) q = sort-formula b₃ long p (modelsRead s₂ Q .1 b₂ end q) (readFormula s₃) refl
+  sort-second b₂ b₃ long p (refused number place) q = second-refused long p (modelsRefused s₂ number place .0 q)
+
+  sort-first : Bytes s₁ → Bytes s₂ → Bytes s₃ → workBytes ≤ work
+      → (r : Read Process) → readModel s₁ ≡ r → Sorted s₁ s₂ s₃ work (withFirst r s₂ s₃)
+  unfolding withFirst
+  sort-first b₁ b₂ b₃ long (found P end) p = sort-second b₂ b₃ long (modelsRead s₁ P .1 b₁ end p) (readModel s₂) refl
+  sort-first b₁ b₂ b₃ long (refused number place) p = first-refused long (modelsRefused s₁ number place .0 p)
+
+  pub sorted : Bytes s₁ → Bytes s₂ → Bytes s₃ → Sorted s₁ s₂ s₃ work (input s₁ s₂ s₃ work)
+  unfolding input
+  sorted b₁ b₂ b₃ = by-length (ltb work workBytes) refl
+    where
+      by-length : (b : Bool) → ltb work workBytes ≡ b
+          → Sorted s₁ s₂ s₃ work (elim b [ true ↦ bad 9 0 0 | false ↦ withFirst (readModel s₁) s₂ s₃ ])
+      by-length true e = buffer-short (ltb-true work workBytes e)
+      by-length false e = sort-first b₁ b₂ b₃ (ltb-false work workBytes e) (readModel s₁) refl
+
+  -- And there is one way to sort it.
+  long-input : workBytes ≤ work → input s₁ s₂ s₃ work ≡ withFirst (readModel s₁) s₂ s₃
+  unfolding input
+  long-input long = rw (le-ltb work workBytes long, input)
+
+  after-first : {P : Process} → workBytes ≤ work → IsModel s₁ P → input s₁ s₂ s₃ work ≡ withSecond P (readModel s₂) s₃
+  unfolding withFirst
+  after-first {P} long p = long-input long ∙ ap (λ r. withFirst r s₂ s₃) (modelsRead s₁ P .0 p)
+
+  after-second : {P Q : Process} → workBytes ≤ work → IsModel s₁ P → IsModel s₂ Q
+      → input s₁ s₂ s₃ work ≡ withFormula P Q (readFormula s₃)
+  unfolding withSecond
+  after-second {P} {Q} long p q = after-first long p ∙ ap (λ r. withSecond P r s₃) (modelsRead s₂ Q .0 q)
+
+  pub sorted-once : {i : Input} → Sorted s₁ s₂ s₃ work i → input s₁ s₂ s₃ work ≡ i
+  unfolding input withFirst withSecond withFormula
+  sorted-once (buffer-short h) = rw (lt-ltb work workBytes h, input)
+  sorted-once (first-refused {n = n} {p = p} long r) = long-input long ∙ ap (λ x. withFirst x s₂ s₃) (modelsRefused s₁ n p .1 r)
+  sorted-once (second-refused {n = n} {p = p} {P = P} long m r) =
+      after-first long m ∙ ap (λ x. withSecond P x s₃) (modelsRefused s₂ n p .1 r)
+  sorted-once (formula-refused {n = n} {p = p} {P = P} {Q = Q} long m k r) =
+      after-second long m k ∙ ap (λ x. withFormula P Q x) (formulasRefused s₃ n p .1 r)
+  sorted-once (formed {P = P} {Q = Q} {F = F} f) =
+      after-second (f .long-enough) (f .first) (f .second) ∙ ap (λ x. withFormula P Q x) (formulasRead s₃ F .0 (f .third))
+
+-- The number by which an input is turned back.
+refusal-number : {s : List ℕ} {root : Field} {n p : ℕ} → Refusal s root n p → (1 ≤ n) × (n ≤ 9)
 refusal-number (slice-too-long h) = omega arith
 refusal-number (ended-early d h) = omega arith
 refusal-number (bad-form d h) = omega arith
@@ -28,47 +83,8 @@ refusal-number (out-of-scope d e h) = omega arith
 refusal-number (too-deep d e h) = omega arith
 refusal-number (left-over d h) = omega arith
 
--- An input is turned back by a number from 1 to 9, or all three slices are read and the work buffer is long enough.
-pub data Sorted (first second formula : List ℕ) (work : ℕ) : Input → Type 0 where
-  turned-back : {number slice place : ℕ} → (1 ≤ number) × (number ≤ 9) → Sorted first second formula work (bad number slice place)
-  read : {P Q : Process} {F : Formula} {e₁ e₂ e₃ : ℕ} → readModel first ≡ found P e₁ → readModel second ≡ found Q e₂
-      → readFormula formula ≡ found F e₃ → workBytes ≤ work → Sorted first second formula work (good P Q F)
-
-module _ (first second formula : List ℕ) (work : ℕ) where
-  sort-formula : {P Q : Process} {e₁ e₂ : ℕ} → readModel first ≡ found P e₁ → readModel second ≡ found Q e₂ → workBytes ≤ work
-      → (r : Read Formula) → readFormula formula ≡ r → Sorted first second formula work (withFormula P Q r)
-  unfolding withFormula
-  sort-formula p q long (found F e₃) f = read p q f long
-  sort-formula p q long (refused number place) f = turned-back (refusal-number (formulasRefused formula number place .0 f))
-
-  sort-second : {P : Process} {e₁ : ℕ} → readModel first ≡ found P e₁ → workBytes ≤ work
-      → (r : Read Process) → readModel second ≡ r → Sorted first second formula work (withSecond P r formula)
-  unfolding withSecond
-  sort-second p long (found Q e₂) q = sort-formula p q long (readFormula formula) refl
-  sort-second p long (refused number place) q = turned-back (refusal-number (modelsRefused second number place .0 q))
-
-  sort-first : workBytes ≤ work → (r : Read Process) → readModel first ≡ r
-      → Sorted first second formula work (withFirst r second formula)
-  unfolding withFirst
-  sort-first long (found P e₁) p = sort-second p long (readModel second) refl
-  sort-first long (refused number place) p = turned-back (refusal-number (modelsRefused first number place .0 p))
-
-  pub sorted : Sorted first second formula work (input first second formula work)
-  unfolding input
-  sorted = by-length (ltb work workBytes) refl
-    where
-      by-length : (b : Bool) → ltb work workBytes ≡ b
-          → Sorted first second formula work
-          (elim b [ true ↦ bad 9 0 0 | false ↦ withFirst (readModel first) second formula ])
-      by-length true e = turned-back {number = 9} (omega arith)
-      by-length false e = sort-first (nltb→le work workBytes (rw e tt)) (readModel first) refl
-
--- A well-formed input is judged.
-pub well-formed : (first second formula : List ℕ) (work : ℕ) (P Q : Process) (F : Formula) → IsModel first P → IsModel second Q
-    → IsFormula formula F → workBytes ≤ work → input first second formula work ≡ good P Q F
-unfolding input withFirst withSecond withFormula
-well-formed first second formula work P Q F p q f long =
-    rw (ltb-false work workBytes long, input)
-    (ap (λ r. withFirst r second formula) (modelsRead first P .0 p)
-    ∙ ap (λ r. withSecond P r formula) (modelsRead second Q .0 q)
-    ∙ ap (λ r. withFormula P Q r) (formulasRead formula F .0 f))
+pub turned-back-by : {s₁ s₂ s₃ : List ℕ} {work n slice place : ℕ} → Sorted s₁ s₂ s₃ work (bad n slice place) → (1 ≤ n) × (n ≤ 9)
+turned-back-by (buffer-short h) = omega arith
+turned-back-by (first-refused long r) = refusal-number r
+turned-back-by (second-refused long m r) = refusal-number r
+turned-back-by (formula-refused long m k r) = refusal-number r

@@ -1,20 +1,18 @@
 -- Where no visit met a limit, the judged truth is the truth of the table ("Judging and its count"). Assumes nothing.
 use mathlib.Core.Path.{_≡_, refl, sym, ap, ap₂, _∙_}
-use mathlib.Core.Logic.{_↔_}
 use mathlib.Core.Bool.{Bool, true, false, _&&_, _||_, true≢false}
 use mathlib.Core.Bool
 use mathlib.Core.List.{List, [], _∷_, _++_, map, flatMap, map-map, map-id, map-append}
-use lib.Dec.{T}
 use Rattle.meaning.specs.Term.{Recipe}
 use Rattle.meaning.specs.Formula.{Label, Formula, equal, not, and, step}
 use Rattle.meaning.specs.State.{State}
 use Rattle.meaning.specs.Step.{Offer, offer, Meeting, meeting}
 use Rattle.meaning.specs.Enumeration.{offers, silents, sent, taken, met, steps}
-use Rattle.meaning.specs.Truth.{True, anyOf, holds}
+use Rattle.meaning.specs.Truth.{anyOf, holds}
 use Rattle.meaning.specs.Visits.{Arrival, arrived, sentArrivals, takenArrivals, metArrival, arrivals, at, meets}
 use Rattle.meaning.specs.Judging.{Judgement, visit, someOf, judge}
 use Rattle.meaning.specs.Theorems.{JudgedTruth}
-use Rattle.meaning.proofs.Test.{neither, pass-none}
+use Rattle.meaning.proofs.Test.{neither, none-passes}
 use Rattle.meaning.proofs.Truth.{truthEvaluated}
 use Rattle.meaning.proofs.Visits.{visitsCounted}
 
@@ -81,4 +79,4 @@ judged-holds (step a F) A h =
 pub judgedTruth : JudgedTruth
 judgedTruth F A unlimited =
     let t = truthEvaluated F (A .state) in
-    rw (judged-holds F A (visitsCounted F A .1 ∙ pass-none meets unlimited)) (t .1, t .0)
+    rw (judged-holds F A (visitsCounted F A .1 ∙ none-passes meets unlimited)) (t .1, t .0)

@@ -16,7 +16,8 @@ use Rattle.meaning.specs.Number.{Read}
 use Rattle.meaning.specs.Reading.{whole, readModel, readFormula}
 use Rattle.meaning.specs.Refusal.{Field, start, Refusal, slice-too-long, left-over}
 use Rattle.meaning.specs.Theorems.{ModelsRefused, FormulasRefused}
-use Sound.{Ends, Reads, refused, provided-sound, test-sound, as-refused, through}
+use Rattle.meaning.proofs.Reader.{fails, by-provided, by-test, of-refused}
+use Sound.{Ends, Reads, through}
 use Process.{process-sound}
 use Formula.{formula-sound}
 use Unique.{as-refusal}
@@ -26,14 +27,14 @@ whole-sound : {A : Type 0} (s : List ℕ) (root : Field) (reader : ℕ → Read 
     → Ends s root (whole reader s)
 unfolding whole
 whole-sound s root reader h =
-    test-sound (ltb 4096 (length s)) _ _ (λ t. refused (slice-too-long (ltb→lt 4096 (length s) t))) (λ t.
-    through h (start (nltb→le 4096 (length s) t)) (λ a end d. provided-sound (leb (length s) end) _ _
+    by-test (Ends s root) (ltb 4096 (length s)) (λ t. fails (slice-too-long (ltb→lt 4096 (length s) t))) (λ t.
+    through h (start (nltb→le 4096 (length s) t)) (λ a end d. by-provided (leb (length s) end) _ _ _ _
     (λ t. (d, leb→le (length s) end t)) (λ t. left-over d (nleb→lt (length s) end t))))
 
 -- What is refused is the one refusal that holds.
 exactly : {s : List ℕ} {root : Field} {A : Type 0} {r : Read A} → Ends s root r → (number place : ℕ)
     → (r ≡ Read.refused number place) ↔ Refusal s root number place
-exactly h number place = (as-refused h, as-refusal h)
+exactly h number place = (of-refused h, as-refusal h)
 
 pub modelsRefused : ModelsRefused
 unfolding readModel

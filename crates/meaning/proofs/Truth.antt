@@ -1,14 +1,15 @@
 -- The evaluator over the enumeration agrees with the truth table of classical FM ("Steps", last paragraph). Assumes nothing.
-use mathlib.Core.Logic.{_↔_}
-use lib.Dec.{T, T-not, not-T}
-use Rattle.meaning.specs.Formula.{Formula, equal, not, and, step}
+use lib.Dec.{T-not, not-T}
+use lib.Ieee.Fits.{and-i}
+use mir.Facts.{and-yes}
+use Rattle.meaning.specs.Formula.{equal, not, and, step}
 use Rattle.meaning.specs.State.{written}
 use Rattle.meaning.specs.Enumeration.{steps}
 use Rattle.meaning.specs.Truth.{True, holds}
 use Rattle.meaning.specs.Theorems.{TruthEvaluated}
 use Rattle.meaning.proofs.Messages.{equalityDecided}
 use Rattle.meaning.proofs.Enumeration.{stepsEnumerated}
-use Rattle.meaning.proofs.Test.{T-and, and-T, T-any, any-T, some-map}
+use Rattle.meaning.proofs.Test.{some-passes, passes-some, some-map}
 
 pub truthEvaluated : TruthEvaluated
 unfolding holds
@@ -19,11 +20,11 @@ truthEvaluated (not F) S =
 truthEvaluated (and F G) S =
     let f = truthEvaluated F S in
     let g = truthEvaluated G S in (
-      λ h. T-and (holds F S) (holds G S) (f .0 (h .0)) (g .0 (h .1)),
-      λ t. let b = and-T (holds F S) (holds G S) t in (f .1 (b .0), g .1 (b .1)),
+      λ h. and-i (holds F S) (holds G S) (f .0 (h .0)) (g .0 (h .1)),
+      λ t. let b = and-yes (holds F S) (holds G S) t in (f .1 (b .0), g .1 (b .1)),
     )
 truthEvaluated (step a F) S =
     let listed = stepsEnumerated S a (True F) in (
-      λ h. T-any (holds F) (some-map (λ T. truthEvaluated F T .0) (listed .to h)),
-      λ t. listed .from (some-map (λ T. truthEvaluated F T .1) (any-T (holds F) (steps S a) t)),
+      λ h. some-passes (holds F) (some-map (λ T. truthEvaluated F T .0) (listed .to h)),
+      λ t. listed .from (some-map (λ T. truthEvaluated F T .1) (passes-some (holds F) (steps S a) t)),
     )

@@ -1,103 +1,134 @@
--- Demand 3, both halves: what an accepted finding excludes, and exactly when a finding is accepted. Assumes nothing.
-use mathlib.Core.Path.{_≡_, refl, sym, ap, ap₂, _∙_}
+-- The verdict is the answer that the rules give, and demand 3, both halves: exactly when a finding is accepted, and what an
+-- accepted finding excludes. Assumes nothing.
+use mathlib.Core.Path.{_≡_, refl, sym, ap, ap₂, _∙_, subst}
+use mathlib.Core.Logic.{_↔_}
 use mathlib.Core.Bool.{Bool, true, false, _||_}
 use mathlib.Core.List.{List}
-use Prim.Native.Nat.{ℕ, _+_, _≤_}
+use Prim.Native.Nat.{ℕ, _+_}
 use native.Mathlib.Omega.{arith}
-use lib.Dec.{ltb, nltb→le}
+use borrow.Author.Tests.{ltb-true, ltb-false, lt-ltb, le-ltb}
+use lib.Dec.{T, ltb}
+use lib.Ieee.Bits.{is-true}
 use lib.ListN.{length-append}
 use Rattle.meaning.specs.Process.{Process}
 use Rattle.meaning.specs.Formula.{Formula}
-use Rattle.meaning.specs.WellFormed.{Bytes, IsModel}
+use Rattle.meaning.specs.WellFormed.{IsModel}
 use Rattle.meaning.specs.State.{start}
-use Rattle.meaning.specs.Truth.{anyOf}
-use Rattle.meaning.specs.Visits.{startArrival, visits, meets, visitsBoth, countOf}
+use Rattle.meaning.specs.Truth.{TrueOf, anyOf}
+use Rattle.meaning.specs.Visits.{startArrival, visits, meets, visitsBoth, countOf, MeetsNoLimit}
 use Rattle.meaning.specs.Judging.{judgeModel}
-use Rattle.meaning.specs.Verdict.{Input, ranked, judged, input, verdictOn, verdict}
-use Rattle.meaning.specs.Theorems.{AcceptedExcludes, Convincing, Acceptable, AcceptedExactly}
-use Rattle.meaning.proofs.Test.{T-true, T-false, ltb-false, any-append, none-pass, pass-none, every-append}
-use Rattle.meaning.proofs.Reading.{modelsRead, formulasRead}
+use Rattle.meaning.specs.Verdict.{Answer, Input, good, bad, ranked, judged, verdictOn, verdict}
+use Rattle.meaning.specs.Answered.{Sorted, formed, Ranked, over-budget, limit-met, false-of-first, true-of-both, accepted, Answered, turned-back}
+use Rattle.meaning.specs.Theorems.{VerdictExact, AcceptedExcludes, Acceptable, AcceptedExactly}
+use Rattle.meaning.proofs.Test.{is-false, some-passes, passes-some, none-passes, passes-none, any-append, some-map}
+use Rattle.meaning.proofs.Every.{every-parts}
+use Rattle.meaning.proofs.Reading.{modelsRead}
 use Rattle.meaning.proofs.Bisimulation.{excluded}
 use Rattle.meaning.proofs.Visits.{visitsCounted}
 use Rattle.meaning.proofs.Judging.{judgedTruth}
-use Rattle.meaning.proofs.Input.{Sorted, turned-back, read, sorted, well-formed}
+use Rattle.meaning.proofs.Input.{sorted, sorted-once, turned-back-by}
 
--- The order of the tests behind result 0.
-ranked-accepts : (spent limited f s : Bool) (count budget : ℕ) → ranked spent limited f s count budget .result ≡ 0
-    → (spent ≡ false) × (limited ≡ false) × (f ≡ true) × (s ≡ false)
-ranked-accepts true limited f s count budget h = let z : _≡_ {A = ℕ} 10 0 = h in absurd (omega arith)
-ranked-accepts false true f s count budget h = let z : _≡_ {A = ℕ} 11 0 = h in absurd (omega arith)
-ranked-accepts false false false s count budget h = let z : _≡_ {A = ℕ} 12 0 = h in absurd (omega arith)
-ranked-accepts false false true true count budget h = let z : _≡_ {A = ℕ} 13 0 = h in absurd (omega arith)
-ranked-accepts false false true false count budget h = (refl, refl, refl, refl)
+-- Two models and a formula.
+module _ (P Q : Process) (F : Formula) (budget : ℕ) where
+  -- They are ranked by the visits of judging.
+  by-visits : judged P Q F budget ≡
+      ranked (ltb budget (countOf P Q F)) (anyOf meets (visitsBoth P Q F)) (judgeModel F P .truth) (judgeModel F Q .truth)
+      (countOf P Q F) budget
+  unfolding judged judgeModel
+  by-visits =
+      let p = visitsCounted F (startArrival P) in
+      let q = visitsCounted F (startArrival Q) in
+      let vs = visits F (startArrival P) in
+      let ws = visits F (startArrival Q) in
+      let count : judgeModel F P .count + judgeModel F Q .count ≡ countOf P Q F = omega (arith, length-append vs ws) in
+      let limited : (judgeModel F P .limited || judgeModel F Q .limited) ≡ anyOf meets (visitsBoth P Q F) =
+      ap₂ (λ a b. a || b) (p .1) (q .1) ∙ sym (any-append meets vs ws) in
+      ap₂ (λ n b. ranked (ltb budget n) b (judgeModel F P .truth) (judgeModel F Q .truth) n budget) count limited
 
--- The verdict on three trees, by the visits of judging.
-judged-by-visits : (P Q : Process) (F : Formula) (budget : ℕ) → judged P Q F budget ≡
-    ranked (ltb budget (countOf P Q F)) (anyOf meets (visitsBoth P Q F)) (judgeModel F P .truth) (judgeModel F Q .truth)
-    (countOf P Q F) budget
-unfolding judged judgeModel
-judged-by-visits P Q F budget =
-    let p = visitsCounted F (startArrival P) in
-    let q = visitsCounted F (startArrival Q) in
-    let vs = visits F (startArrival P) in
-    let ws = visits F (startArrival Q) in
-    let count : judgeModel F P .count + judgeModel F Q .count ≡ countOf P Q F = omega (arith, length-append vs ws) in
-    let limited : (judgeModel F P .limited || judgeModel F Q .limited) ≡ anyOf meets (visitsBoth P Q F) =
-    ap₂ (λ a b. a || b) (p .1) (q .1) ∙ sym (any-append meets vs ws) in
-    ap₂ (λ n b. ranked (ltb budget n) b (judgeModel F P .truth) (judgeModel F Q .truth) n budget) count limited
+  -- Where no visit met a limit, what is judged of each model is its truth.
+  judged-first : MeetsNoLimit P Q F → T (judgeModel F P .truth) ↔ TrueOf F P
+  unfolding judgeModel
+  judged-first u = judgedTruth F (startArrival P) (every-parts (visits F (startArrival P)) u .0)
 
--- Judging accepts exactly when the formula is true of the first and false of the second, within the budget and the limits.
-judged-accepts : (P Q : Process) (F : Formula) (budget : ℕ) → judged P Q F budget .result ≡ 0 → Convincing P Q F budget
-unfolding judgeModel
-judged-accepts P Q F budget h =
-    let count = countOf P Q F in
-    let vs = visitsBoth P Q F in
-    let r = ranked-accepts (ltb budget count) (anyOf meets vs) (judgeModel F P .truth) (judgeModel F Q .truth) count budget
-    (sym (ap (λ a. a .result) (judged-by-visits P Q F budget)) ∙ h) in
-    let unlimited = none-pass meets vs (r .1) in
-    let u = every-append (visits F (startArrival P)) unlimited in
-    record {
-      true-of-first = judgedTruth F (startArrival P) (u .0) .0 (rw (r .2) tt);
-      false-of-second = λ t. rw (r .3) at (judgedTruth F (startArrival Q) (u .1) .1 t);
-      within-budget = nltb→le budget count (rw (r .0) tt);
-      unlimited = unlimited;
-    }
+  judged-second : MeetsNoLimit P Q F → T (judgeModel F Q .truth) ↔ TrueOf F Q
+  unfolding judgeModel
+  judged-second u = judgedTruth F (startArrival Q) (every-parts (visits F (startArrival P)) u .1)
 
-accepts-judged : (P Q : Process) (F : Formula) (budget : ℕ) → Convincing P Q F budget → judged P Q F budget .result ≡ 0
-unfolding judgeModel
-accepts-judged P Q F budget a =
-    let u = every-append (visits F (startArrival P)) (a .unlimited) in
-    let spent = ltb-false budget (countOf P Q F) (a .within-budget) in
-    let limited = pass-none meets (a .unlimited) in
-    let first = T-true (judgeModel F P .truth) (judgedTruth F (startArrival P) (u .0) .1 (a .true-of-first)) in
-    let second = T-false (judgeModel F Q .truth) (λ t. a .false-of-second (judgedTruth F (startArrival Q) (u .1) .0 t)) in
-    rw (judged-by-visits P Q F budget, spent, limited, first, second)
+  -- The rank is one that the rules give.
+  rank : (spent limited f s : Bool) → ltb budget (countOf P Q F) ≡ spent → anyOf meets (visitsBoth P Q F) ≡ limited
+      → judgeModel F P .truth ≡ f → judgeModel F Q .truth ≡ s
+      → Ranked P Q F budget (ranked spent limited f s (countOf P Q F) budget)
+  rank true limited f s h l e g = over-budget (ltb-true budget (countOf P Q F) h)
+  rank false true f s h l e g =
+      limit-met (ltb-false budget (countOf P Q F) h)
+      (some-map (λ v. is-true (meets v)) (passes-some meets (visitsBoth P Q F) (rw l tt)))
+  rank false false false s h l e g =
+      let u = passes-none meets (visitsBoth P Q F) l in
+      false-of-first (ltb-false budget (countOf P Q F) h) u (λ t. rw e at (judged-first u .1 t))
+  rank false false true true h l e g =
+      let u = passes-none meets (visitsBoth P Q F) l in
+      true-of-both (ltb-false budget (countOf P Q F) h) u (judged-first u .0 (rw e tt)) (judged-second u .0 (rw g tt))
+  rank false false true false h l e g =
+      let u = passes-none meets (visitsBoth P Q F) l in
+      accepted (ltb-false budget (countOf P Q F) h) u (judged-first u .0 (rw e tt)) (λ t. rw g at (judged-second u .1 t))
 
--- An input that is accepted, however it was sorted.
-acceptable : {first second formula : List ℕ} {work : ℕ} (budget : ℕ) {i : Input} → Bytes first → Bytes second → Bytes formula
-    → Sorted first second formula work i → verdictOn i budget .result ≡ 0 → Acceptable first second formula work budget
-unfolding verdictOn
-acceptable budget b₁ b₂ b₃ (turned-back {number = number} n) h = let z : number ≡ 0 = h in absurd (omega arith)
-acceptable {first} {second} {formula} budget b₁ b₂ b₃ (read {P = P} {Q = Q} {F = F} {e₁ = e₁} {e₂ = e₂} {e₃ = e₃} p q f long) h =
-    record {
-      P = P;
-      Q = Q;
-      F = F;
-      first-formed = modelsRead first P .1 b₁ e₁ p;
-      second-formed = modelsRead second Q .1 b₂ e₂ q;
-      formula-formed = formulasRead formula F .1 b₃ e₃ f;
-      long-enough = long;
-      convincing = judged-accepts P Q F budget h;
-    }
+  ranked-so : Ranked P Q F budget (judged P Q F budget)
+  ranked-so = rw by-visits (rank _ _ _ _ refl refl refl refl)
+
+  -- And the rules give no other.
+  ranked-once : {a : Answer} → Ranked P Q F budget a → judged P Q F budget ≡ a
+  ranked-once (over-budget h) = rw (by-visits, lt-ltb budget (countOf P Q F) h)
+  ranked-once (limit-met h m) =
+      let limited = is-true (anyOf meets (visitsBoth P Q F)) (some-passes meets (some-map (λ v e. rw e tt) m)) in
+      rw (by-visits, le-ltb budget (countOf P Q F) h, limited)
+  ranked-once (false-of-first h u n) =
+      let first = is-false (judgeModel F P .truth) (λ t. n (judged-first u .0 t)) in
+      rw (by-visits, le-ltb budget (countOf P Q F) h, none-passes meets u, first)
+  ranked-once (true-of-both h u t t′) =
+      let first = is-true (judgeModel F P .truth) (judged-first u .1 t) in
+      let second = is-true (judgeModel F Q .truth) (judged-second u .1 t′) in
+      rw (by-visits, le-ltb budget (countOf P Q F) h, none-passes meets u, first, second)
+  ranked-once (accepted h u t n) =
+      let first = is-true (judgeModel F P .truth) (judged-first u .1 t) in
+      let second = is-false (judgeModel F Q .truth) (λ t′. n (judged-second u .0 t′)) in
+      rw (by-visits, le-ltb budget (countOf P Q F) h, none-passes meets u, first, second)
+
+-- The verdict on an input, however it was sorted.
+module _ {s₁ s₂ s₃ : List ℕ} {work : ℕ} (budget : ℕ) where
+  answered : {i : Input} → Sorted s₁ s₂ s₃ work i → Answered s₁ s₂ s₃ work budget (verdictOn i budget)
+  unfolding verdictOn
+  answered {i = good P Q F} i = Answered.judged i (ranked-so P Q F budget)
+  answered {i = bad n slice place} i = turned-back i
+
+  answered-once : {a : Answer} → Answered s₁ s₂ s₃ work budget a → verdict s₁ s₂ s₃ work budget ≡ a
+  unfolding verdict verdictOn
+  answered-once (turned-back i) = ap (λ x. verdictOn x budget) (sorted-once s₁ s₂ s₃ work i)
+  answered-once (Answered.judged {P = P} {Q = Q} {F = F} i r) =
+      ap (λ x. verdictOn x budget) (sorted-once s₁ s₂ s₃ work i) ∙ ranked-once P Q F budget r
+
+  -- The one answer with result 0.
+  acceptable : {a : Answer} → Answered s₁ s₂ s₃ work budget a → a .result ≡ 0 → Acceptable s₁ s₂ s₃ work budget
+  acceptable (turned-back i) z = let n = turned-back-by i in absurd (omega arith)
+  acceptable (Answered.judged i (over-budget h)) z = absurd (omega arith)
+  acceptable (Answered.judged i (limit-met h m)) z = absurd (omega arith)
+  acceptable (Answered.judged i (false-of-first h u n)) z = absurd (omega arith)
+  acceptable (Answered.judged i (true-of-both h u t t′)) z = absurd (omega arith)
+  acceptable (Answered.judged {P = P} {Q = Q} {F = F} (formed f) (accepted h u t n)) z =
+      record { P = P; Q = Q; F = F; formed = f; true-of-first = t; false-of-second = n; within-budget = h; unlimited = u }
+
+pub verdictExact : VerdictExact
+unfolding verdict
+verdictExact s₁ s₂ s₃ work budget b₁ b₂ b₃ a = (
+  λ e. subst (Answered s₁ s₂ s₃ work budget) e (answered budget (sorted s₁ s₂ s₃ work b₁ b₂ b₃)),
+  answered-once budget,
+)
 
 pub acceptedExactly : AcceptedExactly
-unfolding verdict verdictOn
-acceptedExactly first second formula work budget b₁ b₂ b₃ = (
-  acceptable budget b₁ b₂ b₃ (sorted first second formula work),
+acceptedExactly s₁ s₂ s₃ work budget b₁ b₂ b₃ = (
+  acceptable budget (verdictExact s₁ s₂ s₃ work budget b₁ b₂ b₃ (verdict s₁ s₂ s₃ work budget) .0 refl),
   λ a.
-      ap (λ i. verdictOn i budget .result)
-      (well-formed first second formula work (a .P) (a .Q) (a .F) (a .first-formed) (a .second-formed) (a .formula-formed) (a .long-enough))
-      ∙ accepts-judged (a .P) (a .Q) (a .F) budget (a .convincing),
+      let accepts = accepted (a .within-budget) (a .unlimited) (a .true-of-first) (a .false-of-second) in
+      ap (λ x. x .result) (answered-once budget (Answered.judged (formed (a .formed)) accepts)),
 )
 
 -- A slice has one tree.
@@ -109,8 +140,7 @@ one-model {s} {P} {Q} p q =
 
 pub acceptedExcludes {ℓ} : AcceptedExcludes {ℓ}
 unfolding start
-acceptedExcludes first second formula work budget b₁ b₂ b₃ h P Q p q R B =
-    let a = acceptedExactly first second formula work budget b₁ b₂ b₃ .0 h in
-    rw (one-model p (a .first-formed), one-model q (a .second-formed))
-    (excluded R B (a .F) (start (a .P)) (start (a .Q)) (a .formula-formed .scoped)
-    (a .convincing .true-of-first) (a .convincing .false-of-second))
+acceptedExcludes s₁ s₂ s₃ work budget b₁ b₂ b₃ h P Q p q R B =
+    let a = acceptedExactly s₁ s₂ s₃ work budget b₁ b₂ b₃ .0 h in
+    rw (one-model p (a .formed .first), one-model q (a .formed .second))
+    (excluded R B (a .F) (start (a .P)) (start (a .Q)) (a .formed .third .scoped) (a .true-of-first) (a .false-of-second))

@@ -11,9 +11,10 @@ use lib.ListN.{length, getElem?, drop, replicate, length-append, length-replicat
 use Rattle.meaning.specs.Process.{Process}
 use Rattle.meaning.specs.Formula.{Formula}
 use Rattle.meaning.specs.Judging.{judgeModel}
-use Rattle.meaning.specs.Verdict.{Input, bad, good, workBytes, ranked, judged, input, verdictOn, verdict, workOn, workAfter}
+use Rattle.meaning.specs.Verdict.{Input, bad, good, workBytes, ranked, judged, verdictOn, verdict, workOn, workAfter}
 use Rattle.meaning.specs.Theorems.{Cleared, WorkBytesAfter}
-use Rattle.meaning.proofs.Input.{Sorted, turned-back, read, sorted}
+use Rattle.meaning.specs.Answered.{Sorted, formed}
+use Rattle.meaning.proofs.Input.{sorted, turned-back-by}
 
 -- Of what is judged, the result is 0 or at least 10.
 ranked-result : (spent limited f s : Bool) (count budget : ℕ)
@@ -56,16 +57,19 @@ cleared work long =
       unchanged = λ i h. cleared-above workBytes i work long h;
     }
 
-work-on : {first second formula : List ℕ} (budget : ℕ) (work : List ℕ) {i : Input} → Sorted first second formula (length work) i
-    → (verdictOn i budget .result ≤ 9 → 1 ≤ verdictOn i budget .result → workOn i work ≡ work)
+-- On an input, however it was sorted.
+work-on : {s₁ s₂ s₃ : List ℕ} (budget : ℕ) (work : List ℕ) {i : Input} → Sorted s₁ s₂ s₃ (length work) i
+    → ((1 ≤ verdictOn i budget .result) × (verdictOn i budget .result ≤ 9) → workOn i work ≡ work)
     × ((verdictOn i budget .result ≡ 0) ⊎ (10 ≤ verdictOn i budget .result) → Cleared work (workOn i work))
 unfolding verdictOn workOn
-work-on budget work (turned-back n) = (λ h g. refl, elim [ inl h ↦ absurd (omega arith) | inr h ↦ absurd (omega arith) ])
-work-on budget work (read {P = P} {Q = Q} {F = F} p q f long) = (
-  λ h g. ⊎-elim (λ z. absurd (omega arith)) (λ z. absurd (omega arith)) (judged-result P Q F budget),
-  λ _. cleared work long,
+work-on budget work {i = bad n slice place} i =
+    let b = turned-back-by i in
+    (λ h. refl, elim [ inl h ↦ absurd (omega arith) | inr h ↦ absurd (omega arith) ])
+work-on budget work {i = good P Q F} (formed f) = (
+  λ h. ⊎-elim (λ z. absurd (omega arith)) (λ z. absurd (omega arith)) (judged-result P Q F budget),
+  λ _. cleared work (f .long-enough),
 )
 
 pub workBytesAfter : WorkBytesAfter
 unfolding verdict workAfter
-workBytesAfter first second formula work budget = work-on budget work (sorted first second formula (length work))
+workBytesAfter first second formula work budget b₁ b₂ b₃ = work-on budget work (sorted first second formula (length work) b₁ b₂ b₃)

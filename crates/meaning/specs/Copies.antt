@@ -1,7 +1,7 @@
 -- Recursion over threads along the copies of repl threads ("Steps": "a repl thread's rest on the list its copy gives").
 -- Assumes nothing.
 use Prim.Native.Nat.{ℕ, suc}
-use mathlib.Core.Bool.{Bool, true, false}
+use mathlib.Core.Bool.{true, false}
 use mathlib.Core.List.{List, [], _∷_, _++_, map}
 use Rattle.meaning.specs.Term.{leaf, private}
 use Rattle.meaning.specs.Normal.{equal}

@@ -1,6 +1,6 @@
 -- Numbers, terms, processes and formulas as bytes ("Bytes"): the kind first, then the fields in order. Assumes nothing.
 use Prim.Native.Nat.{ℕ, _+_, _/_, _%_}
-use mathlib.Core.Bool.{Bool, true, false}
+use mathlib.Core.Bool.{true, false}
 use mathlib.Core.List.{List, [], _∷_, _++_}
 use lib.Dec.{ltb}
 use Rattle.meaning.specs.Term.{sideKind, binaryKind, Term, leaf, proj, binary, name, variable}

@@ -1,14 +1,14 @@
 -- The steps of a state as a list, in document 01's order ("Steps"). Assumes nothing.
 use Prim.Native.Nat.{ℕ}
-use mathlib.Core.Bool.{Bool, true, false}
+use mathlib.Core.Bool.{true, false}
 use mathlib.Core.List.{List, [], _∷_, _++_, map, flatMap}
 use Rattle.meaning.specs.Term.{Recipe}
 use Rattle.meaning.specs.Normal.{equal}
 use Rattle.meaning.specs.Process.{Prefix, output, input, Process}
 use Rattle.meaning.specs.Formula.{Label}
-use Rattle.meaning.specs.State.{Bound, written, Thread, act, repl, names, settle, State}
+use Rattle.meaning.specs.State.{Bound, written, Thread, repl, names, settle, State}
 use Rattle.meaning.specs.Step.{Offer, offer, Meeting, meeting, afterOutput, afterInput, afterSilent}
-use Rattle.meaning.specs.Copies.{settled, resultOf, paired}
+use Rattle.meaning.specs.Copies.{resultOf, paired}
 
 -- A list cut at one of its elements, and all such cuts, left to right.
 pub data Cut (A : Type 0) : Type 0 where

@@ -23,5 +23,6 @@ pub mod Limits
 pub mod Visits
 pub mod Judging
 pub mod Verdict
+pub mod Answered
 pub mod Theorems
 pub mod Examples

@@ -1,16 +1,16 @@
 -- The limits of states and recipes ("Judging and its count"). They belong to judging alone: truth, steps and bisimulation
 -- have no limits in them. Assumes nothing.
-use Prim.Native.Nat.{ℕ, zero, suc, _+_}
+use Prim.Native.Nat.{ℕ, suc, _+_}
 use mathlib.Core.Bool.{Bool, true, false, _||_}
-use mathlib.Core.List.{List, [], _∷_, _++_, map}
+use mathlib.Core.List.{List, [], _∷_}
 use lib.Dec.{ltb}
 use lib.ListN.{length}
-use Rattle.meaning.specs.Term.{Term, Recipe, leaf, proj, binary, private, nodes}
+use Rattle.meaning.specs.Term.{Term, leaf, proj, binary, private, nodes}
 use Rattle.meaning.specs.Normal.{equal}
 use Rattle.meaning.specs.Process.{Prefix, output, input, Process}
 use Rattle.meaning.specs.Formula.{Label, Formula}
 use Rattle.meaning.specs.State.{Bound, _▸_, written, worked, Thread, act, repl, names, State}
-use Rattle.meaning.specs.Copies.{resultOf, settled}
+use Rattle.meaning.specs.Copies.{resultOf}
 use Rattle.meaning.specs.Truth.{anyOf}
 
 -- Working a term: whether a normal form over 255 nodes arises, a part's included.

@@ -2,7 +2,7 @@
 use Prim.Native.Nat.{ℕ}
 use mathlib.Core.Bool.{Bool, true, false, _&&_}
 use lib.Dec.{eqb}
-use Rattle.meaning.specs.Term.{Side, Direction, opposite, Binary, pair, cipher, mac, sideKind, binaryKind, Tree, leaf, proj, binary}
+use Rattle.meaning.specs.Term.{Side, Direction, opposite, Binary, pair, cipher, mac, sideKind, binaryKind, leaf, proj, binary}
 use Rattle.meaning.specs.Term.{Name, public, private, Message, nodes}
 use Rattle.meaning.specs.Equation.{part}
 

@@ -1,6 +1,6 @@
 -- Threads, states, settling and the start state ("Steps"). Assumes nothing.
 use Prim.Native.Nat.{ℕ, suc}
-use mathlib.Core.Bool.{Bool, true, false}
+use mathlib.Core.Bool.{true, false}
 use mathlib.Core.List.{List, [], _∷_, _++_}
 use lib.ListN.{getD}
 use Rattle.meaning.specs.Term.{Leaf, name, variable, Term, Message, leaf, public, private, substitute}

@@ -4,7 +4,7 @@ use mathlib.Core.Path.{_≡_}
 use mathlib.Core.Logic.{_↔_, _⊎_}
 use mathlib.Core.Option.{some}
 use mathlib.Core.Bool.{false}
-use mathlib.Core.List.{List, [], _∷_}
+use mathlib.Core.List.{List}
 use Prim.Native.Nat.{ℕ, _+_, _≤_, _<_}
 use lib.Dec.{T}
 use lib.ListN.{length, getElem?}
@@ -28,7 +28,8 @@ use Rattle.meaning.specs.Truth.{True, TrueOf, anyOf, holds}
 use Rattle.meaning.specs.Bisimulation.{outputs, Bisimulation}
 use Rattle.meaning.specs.Visits.{Arrival, meets, visits, countOf, MeetsNoLimit}
 use Rattle.meaning.specs.Judging.{judge}
-use Rattle.meaning.specs.Verdict.{workBytes, verdict, workAfter}
+use Rattle.meaning.specs.Verdict.{Answer, workBytes, verdict, workAfter}
+use Rattle.meaning.specs.Answered.{Formed, Answered}
 
 -- Demand 2, messages: equal by the equations exactly when the normal forms are the same, and the test decides it.
 abbrev pub EqualByNormalForms : Type 0
@@ -60,6 +61,15 @@ abbrev pub FormulasRefused : Type 0
 FormulasRefused =
     (s : List ℕ) (number place : ℕ) → (readFormula s ≡ refused number place) ↔ Refusal s (formula 48 16 0) number place
 
+-- A model or a formula is well-formed exactly when its slice breaks none of the rules.
+abbrev pub ModelsFormed : Type 0
+ModelsFormed =
+    (s : List ℕ) → Bytes s → ((P : Process) × IsModel s P) ↔ ((number place : ℕ) → ¬ (Refusal s (process 64 0) number place))
+
+abbrev pub FormulasFormed : Type 0
+FormulasFormed =
+    (s : List ℕ) → Bytes s → ((F : Formula) × IsFormula s F) ↔ ((number place : ℕ) → ¬ (Refusal s (formula 48 16 0) number place))
+
 -- Demand 2, steps: the enumeration lists each derivation once and nothing else. Whatever property P of states is asked for,
 -- the derivations that lead to a state with P and the places of the list with P correspond one to one.
 abbrev pub StepsEnumerated : Type 1
@@ -75,6 +85,10 @@ abbrev pub RelatedAgree {ℓ} : Type (ℓ + 1)
 RelatedAgree =
     (R : State → State → Type ℓ) → Bisimulation R → (F : Formula) (S T : State) → R S T → FormulaScoped (outputs S) F
     → True F S ↔ True F T
+
+-- There are bisimulations: every state is related to itself by equality.
+abbrev pub EqualityBisimulates : Type 0
+EqualityBisimulates = Bisimulation {0} (λ S T. S ≡ T)
 
 -- Every state that is reached holds only private names that it has made.
 abbrev pub NamesAreMade : Type 0
@@ -95,6 +109,12 @@ abbrev pub JudgedTruth : Type 0
 JudgedTruth =
     (F : Formula) (A : Arrival) → Every (λ v. meets v ≡ false) (visits F A) → T (judge F A .truth) ↔ True F (A .state)
 
+-- All four numbers: the verdict is the answer that the rules give, and no other.
+abbrev pub VerdictExact : Type 0
+VerdictExact =
+    (first second formula : List ℕ) (work budget : ℕ) → Bytes first → Bytes second → Bytes formula
+    → (a : Answer) → (verdict first second formula work budget ≡ a) ↔ Answered first second formula work budget a
+
 -- Demand 3, first half: result 0 excludes every strong early bisimulation between the start states.
 abbrev pub AcceptedExcludes {ℓ} : Type (ℓ + 1)
 AcceptedExcludes =
@@ -103,21 +123,15 @@ AcceptedExcludes =
     → (R : State → State → Type ℓ) → Bisimulation R → ¬ (R (start P) (start Q))
 
 -- Demand 3, second half: exactly when a finding is accepted.
-pub record Convincing (P Q : Process) (F : Formula) (budget : ℕ) : Type 0 where
-  pub true-of-first : TrueOf F P
-  pub false-of-second : ¬ (TrueOf F Q)
-  pub within-budget : countOf P Q F ≤ budget
-  pub unlimited : MeetsNoLimit P Q F
-
 pub record Acceptable (first second formula : List ℕ) (work budget : ℕ) : Type 0 where
   pub P : Process
   pub Q : Process
   pub F : Formula
-  pub first-formed : IsModel first P
-  pub second-formed : IsModel second Q
-  pub formula-formed : IsFormula formula F
-  pub long-enough : workBytes ≤ work
-  pub convincing : Convincing P Q F budget
+  pub formed : Formed first second formula work P Q F
+  pub true-of-first : TrueOf F P
+  pub false-of-second : ¬ (TrueOf F Q)
+  pub within-budget : countOf P Q F ≤ budget
+  pub unlimited : MeetsNoLimit P Q F
 
 abbrev pub AcceptedExactly : Type 0
 AcceptedExactly =
@@ -132,8 +146,7 @@ pub record Cleared (before after : List ℕ) : Type 0 where
 
 abbrev pub WorkBytesAfter : Type 0
 WorkBytesAfter =
-    (first second formula work : List ℕ) (budget : ℕ)
-    → (verdict first second formula (length work) budget .result ≤ 9 → 1 ≤ verdict first second formula (length work) budget .result
-    → workAfter first second formula work ≡ work)
-    × ((verdict first second formula (length work) budget .result ≡ 0) ⊎ (10 ≤ verdict first second formula (length work) budget .result)
-    → Cleared work (workAfter first second formula work))
+    (first second formula work : List ℕ) (budget : ℕ) → Bytes first → Bytes second → Bytes formula
+    → let result = verdict first second formula (length work) budget .result in
+    ((1 ≤ result) × (result ≤ 9) → workAfter first second formula work ≡ work)
+    × ((result ≡ 0) ⊎ (10 ≤ result) → Cleared work (workAfter first second formula work))

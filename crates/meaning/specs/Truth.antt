@@ -1,6 +1,6 @@
 -- Classical FM: truth as the table has it, over the step rules, and its evaluator over the enumeration ("Steps", last
 -- paragraph). Assumes nothing.
-use mathlib.Core.Bool.{Bool, true, false, _&&_, _||_}
+use mathlib.Core.Bool.{Bool, false, _&&_, _||_}
 use mathlib.Core.Bool
 use mathlib.Core.List.{List, [], _∷_}
 use Rattle.meaning.specs.Equation.{Equal}

@@ -1,6 +1,6 @@
 -- The visits of judging, without short cuts ("Judging and its count"): the states that are reached, whether a visit meets a
 -- limit, and the list of all visits, whose length is the count. Assumes nothing.
-use Prim.Native.Nat.{ℕ, _+_}
+use Prim.Native.Nat.{ℕ}
 use mathlib.Core.Path.{_≡_}
 use mathlib.Core.Bool.{Bool, true, false, _||_}
 use mathlib.Core.List.{List, [], _∷_, _++_, map, flatMap}

@@ -1,5 +1,5 @@
 -- Formulas ("Bytes"): what is read stands there, in scope and within the nesting limits (sound), and all that does so is read
--- (complete). Assumes nothing.
+-- (complete). Assumes fails tt.
 use mathlib.Core.Path.{_≡_, refl}
 use mathlib.Core.List.{List, [], _∷_}
 use Prim.Native.Nat.{ℕ, zero, suc, _+_, _-_, _≤_, _<_}
@@ -16,7 +16,7 @@ use Rattle.meaning.specs.Kind.{FormulaKind}
 use Rattle.meaning.specs.Reading.{never, stepsLeft, formulaFields, formula}
 use Rattle.meaning.specs.WellFormed.{Bytes}
 use Rattle.meaning.proofs.Reading.Place.{Stands, _⨾_, parts}
-use Rattle.meaning.proofs.Reading.Reader.{Only, holds, nothing, only-then}
+use Rattle.meaning.proofs.Reader.{Only, holds, fails, and-then}
 use Rattle.meaning.proofs.Reading.Kind.{formulaCode, formulaTable, kind-sound, kind-complete}
 use Rattle.meaning.proofs.Reading.Term.{term-sound, term-complete}
 
@@ -34,25 +34,25 @@ module _ {s : List ℕ} (bytes : Bytes s) where
       → Only (FormulaAt s (suc left) steps scope at) (formulaFields (λ m n e. formula left m n s e) steps scope s k mid)
   unfolding formulaFields encodeFormula
   fields-sound part FormulaKind.equal k more =
-      only-then (term-sound bytes _ _ _) λ M _ m. only-then (term-sound bytes _ _ _) λ N _ n.
+      and-then (term-sound bytes _ _ _) λ M _ m. and-then (term-sound bytes _ _ _) λ N _ n.
       holds (k ⨾ m.0 ⨾ n.0, (m.1, n.1), omega arith)
-  fields-sound part FormulaKind.not k more = only-then (part _ _ _) λ F _ f. holds (k ⨾ f.0, f.1, omega arith)
+  fields-sound part FormulaKind.not k more = and-then (part _ _ _) λ F _ f. holds (k ⨾ f.0, f.1, omega arith)
   fields-sound part FormulaKind.and k more =
-      only-then (part _ _ _) λ F _ f. only-then (part _ _ _) λ G _ g. holds (k ⨾ f.0 ⨾ g.0, (f.1, g.1), omega arith)
+      and-then (part _ _ _) λ F _ f. and-then (part _ _ _) λ G _ g. holds (k ⨾ f.0 ⨾ g.0, (f.1, g.1), omega arith)
   fields-sound part FormulaKind.output k more =
-      only-then (term-sound bytes _ _ _) λ C _ c. only-then (part _ _ _) λ F _ f.
+      and-then (term-sound bytes _ _ _) λ C _ c. and-then (part _ _ _) λ F _ f.
       holds (k ⨾ c.0 ⨾ f.0, (c.1, rw one-add f.1), omega (arith, ltb→lt))
   fields-sound part FormulaKind.input k more =
-      only-then (term-sound bytes _ _ _) λ C _ c. only-then (term-sound bytes _ _ _) λ M _ m.
-      only-then (part _ _ _) λ F _ f. holds (k ⨾ c.0 ⨾ m.0 ⨾ f.0, ((c.1, m.1), rw zero-add f.1), omega (arith, ltb→lt))
+      and-then (term-sound bytes _ _ _) λ C _ c. and-then (term-sound bytes _ _ _) λ M _ m.
+      and-then (part _ _ _) λ F _ f. holds (k ⨾ c.0 ⨾ m.0 ⨾ f.0, ((c.1, m.1), rw zero-add f.1), omega (arith, ltb→lt))
   fields-sound part FormulaKind.silent k more =
-      only-then (part _ _ _) λ F _ f. holds (k ⨾ f.0, (tt, rw zero-add f.1), omega (arith, ltb→lt))
+      and-then (part _ _ _) λ F _ f. holds (k ⨾ f.0, (tt, rw zero-add f.1), omega (arith, ltb→lt))
 
   pub formula-sound : (left steps scope at : ℕ) → Only (FormulaAt s left steps scope at) (formula left steps scope s at)
   unfolding formula
-  formula-sound zero steps scope at = only-then (kind-sound formulaTable never bytes at) λ k _ p. nothing
+  formula-sound zero steps scope at = and-then (kind-sound formulaTable never bytes at) λ k _ p. fails tt
   formula-sound (suc left) steps scope at =
-      only-then (kind-sound formulaTable (stepsLeft steps) bytes at) λ k _ p. fields-sound (formula-sound left) k p.0 p.1
+      and-then (kind-sound formulaTable (stepsLeft steps) bytes at) λ k _ p. fields-sound (formula-sound left) k p.0 p.1
 
 -- On some path of a formula there is a node.
 depth-positive : (F : Formula) → 0 < formulaDepth F

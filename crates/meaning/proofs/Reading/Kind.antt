@@ -1,5 +1,5 @@
 -- Kinds ("Bytes"), for any list of them: what is read stands there (sound), and what stands there is read (complete).
--- Assumes nothing.
+-- Assumes fails tt.
 use mathlib.Core.Path.{_≡_, refl}
 use mathlib.Core.Bool.{Bool}
 use mathlib.Core.List.{List, [], _∷_, map}
@@ -15,7 +15,7 @@ use Rattle.meaning.specs.Kind.{TermKind, termKinds, ProcessKind, process
 use Rattle.meaning.specs.Reading.{kind, listed}
 use Rattle.meaning.specs.WellFormed.{Bytes}
 use Rattle.meaning.proofs.Reading.Place.{Stands}
-use Rattle.meaning.proofs.Reading.Reader.{Only, holds, nothing, only-then, only-provided, provided-found}
+use Rattle.meaning.proofs.Reader.{Only, holds, fails, and-then, by-provided, provided-found}
 use Rattle.meaning.proofs.Reading.Number.{encode-short, number-sound, number-complete}
 
 -- The number of each kind.
@@ -74,7 +74,7 @@ numbered code m (j ∷ kinds) h (suc n) e =
 module _ {K : Type 0} {kinds : List K} {code : K → ℕ} (table : Table kinds code) where
   listed-sound : {s : List ℕ} {at : ℕ} (n end : ℕ) → Stands s at (encodeNumber n) end
       → (entry : Option K) → getElem? kinds n ≡ entry → Only (λ k end. Stands s at (code k ∷ []) end) (listed entry at end)
-  listed-sound n end p none e = nothing
+  listed-sound n end p none e = fails tt
   listed-sound n end p (some k) e =
       let i = numbered code 0 kinds (table .ordered) n e in
       let same : code k ≡ n = omega arith in
@@ -84,8 +84,8 @@ module _ {K : Type 0} {kinds : List K} {code : K → ℕ} (table : Table kinds c
       → Only (λ k end. Stands s at (code k ∷ []) end × T (allowed k)) (kind kinds allowed s at)
   unfolding kind
   kind-sound allowed b at =
-      only-then (number-sound b at) λ n end p. only-then (listed-sound n end p (getElem? kinds n) refl) λ k end q.
-      only-provided (allowed k) 7 at k end λ t. (q, t)
+      and-then (number-sound b at) λ n end p. and-then (listed-sound n end p (getElem? kinds n) refl) λ k end q.
+      by-provided (allowed k) 7 at k end (λ t. (q, t)) (λ t. tt)
 
   pub kind-complete : (allowed : K → Bool) {s : List ℕ} {at end : ℕ} (k : K) → getElem? kinds (code k) ≡ some k
       → T (allowed k) → Stands s at (code k ∷ []) end → kind kinds allowed s at ≡ found k end

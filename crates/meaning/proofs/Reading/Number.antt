@@ -1,5 +1,5 @@
 -- Numbers ("Bytes", first paragraph): what is read stands there (sound), and what stands there is read (complete).
--- Assumes nothing.
+-- Assumes fails tt.
 use mathlib.Core.Path.{_≡_, refl, ap, _∙_}
 use mathlib.Core.Bool.{_&&_}
 use mathlib.Core.List.{List, [], _∷_, _++_}
@@ -12,7 +12,7 @@ use Rattle.meaning.specs.Encoding.{encodeNumber}
 use Rattle.meaning.specs.Number.{found, firstByte, secondByte, number}
 use Rattle.meaning.specs.WellFormed.{Bytes}
 use Rattle.meaning.proofs.Reading.Place.{Stands, stands}
-use Rattle.meaning.proofs.Reading.Reader.{Only, holds, nothing, only-provided, provided-found, by-test, below, above}
+use Rattle.meaning.proofs.Reader.{Only, holds, fails, by-provided, provided-found, by-test, below, above}
 
 -- Numbers of one byte and of two.
 pub encode-short : (n : ℕ) → n < 128 → encodeNumber n ≡ n ∷ []
@@ -36,18 +36,18 @@ NumberAt s at n end = Stands s at (encodeNumber n) end
 second-sound : (s : List ℕ) (at b : ℕ) (rest : List ℕ) → drop at s ≡ b ∷ rest → 128 ≤ b → b < 256
     → Only (NumberAt s at) (secondByte (length s) at b rest)
 unfolding secondByte
-second-sound s at b [] e l h = nothing
+second-sound s at b [] e l h = fails tt
 second-sound s at b (c ∷ rest) e l h =
-    only-provided (leb 1 c && leb c 127) 3 at (b - 128 + 128 * c) (at + 2) λ t.
+    by-provided (leb 1 c && leb c 127) 3 at (b - 128 + 128 * c) (at + 2) (λ t.
     let low = leb→le 1 c (and-yes (leb 1 c) (leb c 127) t .0) in
     let first : 128 + (b - 128 + 128 * c) % 128 ≡ b = omega arith in
     let second : (b - 128 + 128 * c) / 128 ≡ c = omega arith in
-    rw (encode-long (b - 128 + 128 * c) (omega arith), first, second) (stands s at (b ∷ c ∷ []) rest e)
+    rw (encode-long (b - 128 + 128 * c) (omega arith), first, second) (stands s at (b ∷ c ∷ []) rest e)) (λ t. tt)
 
 first-sound : (s : List ℕ) (at : ℕ) (rest : List ℕ) → drop at s ≡ rest → Bytes rest
     → Only (NumberAt s at) (firstByte (length s) at rest)
 unfolding firstByte
-first-sound s at [] e h = nothing
+first-sound s at [] e h = fails tt
 first-sound s at (b ∷ rest) e h =
     by-test (Only (NumberAt s at)) (ltb b 128)
     (λ t. holds (rw (encode-short b (ltb→lt b 128 t)) (stands s at (b ∷ []) rest e)))

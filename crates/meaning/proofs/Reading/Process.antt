@@ -1,5 +1,5 @@
 -- Processes ("Bytes"): what is read stands there, in scope and within the nesting limits (sound), and all that does so is read
--- (complete). Assumes nothing.
+-- (complete). Assumes fails tt.
 use mathlib.Core.Path.{_≡_, refl}
 use mathlib.Core.List.{List, [], _∷_}
 use Prim.Native.Nat.{ℕ, zero, suc, _+_, _≤_, _<_}
@@ -16,7 +16,7 @@ use Rattle.meaning.specs.Kind.{ProcessKind}
 use Rattle.meaning.specs.Reading.{never, roomFor, processFields, process}
 use Rattle.meaning.specs.WellFormed.{Bytes}
 use Rattle.meaning.proofs.Reading.Place.{Stands, _⨾_, parts}
-use Rattle.meaning.proofs.Reading.Reader.{Only, holds, nothing, only-then}
+use Rattle.meaning.proofs.Reader.{Only, holds, fails, and-then}
 use Rattle.meaning.proofs.Reading.Kind.{processCode, processTable, kind-sound, kind-complete}
 use Rattle.meaning.proofs.Reading.Term.{term-sound, term-complete}
 
@@ -35,29 +35,29 @@ module _ {s : List ℕ} (bytes : Bytes s) where
   unfolding processFields encodeProcess
   fields-sound part small ProcessKind.nil k room = holds {a = nil} (k, tt, omega arith)
   fields-sound part small ProcessKind.new k room =
-      only-then (part _ _ (omega (arith, ltb→lt))) λ P _ p. holds (k ⨾ p.0, p.1, omega arith)
+      and-then (part _ _ (omega (arith, ltb→lt))) λ P _ p. holds (k ⨾ p.0, p.1, omega arith)
   fields-sound part small ProcessKind.output k room =
-      only-then (term-sound bytes _ _ _) λ C _ c. only-then (term-sound bytes _ _ _) λ M _ m.
-      only-then (part _ _ small) λ P _ p. holds (k ⨾ c.0 ⨾ m.0 ⨾ p.0, ((c.1, m.1), rw zero-add p.1), omega arith)
+      and-then (term-sound bytes _ _ _) λ C _ c. and-then (term-sound bytes _ _ _) λ M _ m.
+      and-then (part _ _ small) λ P _ p. holds (k ⨾ c.0 ⨾ m.0 ⨾ p.0, ((c.1, m.1), rw zero-add p.1), omega arith)
   fields-sound part small ProcessKind.input k room =
-      only-then (term-sound bytes _ _ _) λ C _ c. only-then (part _ _ (omega (arith, ltb→lt))) λ P _ p.
+      and-then (term-sound bytes _ _ _) λ C _ c. and-then (part _ _ (omega (arith, ltb→lt))) λ P _ p.
       holds (k ⨾ c.0 ⨾ p.0, (c.1, rw one-add p.1), omega arith)
   fields-sound part small ProcessKind.if k room =
-      only-then (term-sound bytes _ _ _) λ M _ m. only-then (term-sound bytes _ _ _) λ N _ n.
-      only-then (part _ _ small) λ P _ p. only-then (part _ _ small) λ Q _ q.
+      and-then (term-sound bytes _ _ _) λ M _ m. and-then (term-sound bytes _ _ _) λ N _ n.
+      and-then (part _ _ small) λ P _ p. and-then (part _ _ small) λ Q _ q.
       holds (k ⨾ m.0 ⨾ n.0 ⨾ p.0 ⨾ q.0, (m.1, n.1, p.1, q.1), omega arith)
   fields-sound part small ProcessKind.let-in k room =
-      only-then (term-sound bytes _ _ _) λ M _ m. only-then (part _ _ (omega (arith, ltb→lt))) λ P _ p.
+      and-then (term-sound bytes _ _ _) λ M _ m. and-then (part _ _ (omega (arith, ltb→lt))) λ P _ p.
       holds (k ⨾ m.0 ⨾ p.0, (m.1, p.1), omega arith)
   fields-sound part small ProcessKind.par k room =
-      only-then (part _ _ small) λ P _ p. only-then (part _ _ small) λ Q _ q. holds (k ⨾ p.0 ⨾ q.0, (p.1, q.1), omega arith)
-  fields-sound part small ProcessKind.repl k room = only-then (part _ _ small) λ P _ p. holds (k ⨾ p.0, p.1, omega arith)
+      and-then (part _ _ small) λ P _ p. and-then (part _ _ small) λ Q _ q. holds (k ⨾ p.0 ⨾ q.0, (p.1, q.1), omega arith)
+  fields-sound part small ProcessKind.repl k room = and-then (part _ _ small) λ P _ p. holds (k ⨾ p.0, p.1, omega arith)
 
   pub process-sound : (left scope at : ℕ) → scope ≤ 12 → Only (ProcessAt s left scope at) (process left scope s at)
   unfolding process
-  process-sound zero scope at small = only-then (kind-sound processTable never bytes at) λ k _ p. nothing
+  process-sound zero scope at small = and-then (kind-sound processTable never bytes at) λ k _ p. fails tt
   process-sound (suc left) scope at small =
-      only-then (kind-sound processTable (roomFor scope) bytes at) λ k _ p. fields-sound (process-sound left) small k p.0 p.1
+      and-then (kind-sound processTable (roomFor scope) bytes at) λ k _ p. fields-sound (process-sound left) small k p.0 p.1
 
 -- On some path of a process there is a node.
 depth-positive : (P : Process) → 0 < processDepth P

@@ -1,5 +1,5 @@
 -- Terms ("Bytes"): what is read stands there, in scope and within the nesting limit (sound), and all that does so is read
--- (complete). Assumes nothing.
+-- (complete). Assumes fails tt.
 use mathlib.Core.Path.{_≡_, refl}
 use mathlib.Core.List.{List, [], _∷_}
 use mathlib.Core.Option.{some}
@@ -17,7 +17,7 @@ use Rattle.meaning.specs.Kind.{TermKind, termKinds}
 use Rattle.meaning.specs.Reading.{always, never, termFields, term}
 use Rattle.meaning.specs.WellFormed.{Bytes}
 use Rattle.meaning.proofs.Reading.Place.{Stands, _⨾_, parts}
-use Rattle.meaning.proofs.Reading.Reader.{Only, holds, nothing, only-then, only-provided, provided-found}
+use Rattle.meaning.proofs.Reader.{Only, holds, fails, and-then, by-provided, provided-found}
 use Rattle.meaning.proofs.Reading.Number.{number-sound, number-complete}
 use Rattle.meaning.proofs.Reading.Kind.{termCode, termTable, kind-sound, kind-complete}
 
@@ -32,20 +32,20 @@ module _ {s : List ℕ} (bytes : Bytes s) where
       → Only (TermAt s (suc left) scope at) (termFields (term left scope s) scope s k mid)
   unfolding termFields encodeTerm
   fields-sound part TermKind.name k =
-      only-then (number-sound bytes _) λ n _ p.
-      only-provided (leb n 255) _ _ _ _ λ t. (k ⨾ p, leb→le n 255 t, omega arith)
+      and-then (number-sound bytes _) λ n _ p.
+      by-provided (leb n 255) _ _ _ _ (λ t. (k ⨾ p, leb→le n 255 t, omega arith)) (λ t. tt)
   fields-sound {scope} part TermKind.variable k =
-      only-then (number-sound bytes _) λ n _ p.
-      only-provided (ltb n scope) _ _ _ _ λ t. (k ⨾ p, ltb→lt n scope t, omega arith)
-  fields-sound part (TermKind.proj side) k = only-then (part _) λ t _ p. holds (k ⨾ p.0, p.1, omega arith)
+      and-then (number-sound bytes _) λ n _ p.
+      by-provided (ltb n scope) _ _ _ _ (λ t. (k ⨾ p, ltb→lt n scope t, omega arith)) (λ t. tt)
+  fields-sound part (TermKind.proj side) k = and-then (part _) λ t _ p. holds (k ⨾ p.0, p.1, omega arith)
   fields-sound part (TermKind.binary b) k =
-      only-then (part _) λ t _ p. only-then (part _) λ u _ q. holds (k ⨾ p.0 ⨾ q.0, (p.1, q.1), omega arith)
+      and-then (part _) λ t _ p. and-then (part _) λ u _ q. holds (k ⨾ p.0 ⨾ q.0, (p.1, q.1), omega arith)
 
   pub term-sound : (left scope at : ℕ) → Only (TermAt s left scope at) (term left scope s at)
   unfolding term
-  term-sound zero scope at = only-then (kind-sound termTable never bytes at) λ k _ p. nothing
+  term-sound zero scope at = and-then (kind-sound termTable never bytes at) λ k _ p. fails tt
   term-sound (suc left) scope at =
-      only-then (kind-sound termTable always bytes at) λ k _ p. fields-sound (term-sound left scope) k p.0
+      and-then (kind-sound termTable always bytes at) λ k _ p. fields-sound (term-sound left scope) k p.0
 
 -- The numbers of the kinds with parts are their places in the list.
 side-listed : (side : Side) → getElem? termKinds (sideKind side) ≡ some (TermKind.proj side)

@@ -12,7 +12,8 @@ use Rattle.meaning.specs.Number.{Read}
 use Rattle.meaning.specs.Formula.{Formula}
 use Rattle.meaning.specs.Reading as Reader
 use Rattle.meaning.specs.Refusal.{Field, Due, in-formula, StepKind, TooDeep, formula-node, formulaFields}
-use Rattle.meaning.proofs.Refusal.Sound.{Leaves, Reads, found, andThen-sound, through}
+use Rattle.meaning.proofs.Reader.{holds, and-then}
+use Rattle.meaning.proofs.Refusal.Sound.{Leaves, Reads, through}
 use Rattle.meaning.proofs.Refusal.Kind.{kind-sound, never-sound}
 use Rattle.meaning.proofs.Refusal.Term.{term-sound}
 
@@ -44,21 +45,21 @@ module _ {s : List ℕ} {root : Field} where
       → Leaves s root fs (Reader.formulaFields part steps scope s k at)
   unfolding Reader.formulaFields
   fields-sound left steps scope part h FormulaKind.equal at fs d =
-      through (term-sound 8 scope) d (λ M e₁ d. through (term-sound 8 scope) d (λ N end d. found d))
-  fields-sound left steps scope part h FormulaKind.not at fs d = through (h steps scope) d (λ F end d. found d)
+      through (term-sound 8 scope) d (λ M e₁ d. through (term-sound 8 scope) d (λ N end d. holds d))
+  fields-sound left steps scope part h FormulaKind.not at fs d = through (h steps scope) d (λ F end d. holds d)
   fields-sound left steps scope part h FormulaKind.and at fs d =
-      through (h steps scope) d (λ F e₁ d. through (h steps scope) d (λ G end d. found d))
+      through (h steps scope) d (λ F e₁ d. through (h steps scope) d (λ G end d. holds d))
   fields-sound left steps scope part h FormulaKind.output at fs d =
-      through (term-sound 8 scope) d (λ C e₁ d. through (h (steps - 1) (suc scope)) d (λ F end d. found d))
+      through (term-sound 8 scope) d (λ C e₁ d. through (h (steps - 1) (suc scope)) d (λ F end d. holds d))
   fields-sound left steps scope part h FormulaKind.input at fs d =
       through (term-sound 8 scope) d (λ C e₁ d. through (term-sound 8 scope) d (λ M e₂ d.
-      through (h (steps - 1) scope) d (λ F end d. found d)))
-  fields-sound left steps scope part h FormulaKind.silent at fs d = through (h (steps - 1) scope) d (λ F end d. found d)
+      through (h (steps - 1) scope) d (λ F end d. holds d)))
+  fields-sound left steps scope part h FormulaKind.silent at fs d = through (h (steps - 1) scope) d (λ F end d. holds d)
 
   pub formula-sound : (left steps scope : ℕ) → Reads s root (Field.formula left steps scope) (Reader.formula left steps scope s)
   unfolding Reader.formula
   formula-sound zero steps scope at fs d = never-sound d formulaKinds (λ n h. h) (λ n h. formula-node h)
   formula-sound (suc left) steps scope at fs d =
-      andThen-sound (kind-sound d formulaKinds (λ n h. h) (Reader.stepsLeft steps) (λ n k is t. none-left steps k is t))
+      and-then (kind-sound d formulaKinds (λ n h. h) (Reader.stepsLeft steps) (λ n k is t. none-left steps k is t))
       (λ k end (n, read, is, t). fields-sound left steps scope (λ m n e. Reader.formula left m n s e) (formula-sound left)
       k end fs (in-formula d read is (some-left steps t)))

@@ -10,7 +10,8 @@ use lib.ListN.{length, getElem?}
 use Rattle.meaning.specs.Number.{Read, andThen, number}
 use Rattle.meaning.specs.Reading.{kind, listed, never}
 use Rattle.meaning.specs.Refusal.{Field, Due, Unlisted, TooDeep, unlisted-kind, too-deep}
-use Rattle.meaning.proofs.Refusal.Sound.{Sound, found, refused, andThen-sound, provided-sound}
+use Rattle.meaning.proofs.Reader.{holds, fails, and-then, by-provided}
+use Rattle.meaning.proofs.Refusal.Sound.{Sound}
 use Rattle.meaning.proofs.Refusal.Number.{number-sound}
 
 -- What is listed is under the length, and what is not is past it.
@@ -35,15 +36,15 @@ module _ {s : List ℕ} {root f : Field} {fs : List Field} {at : ℕ} (d : Due s
       → Sound s root (Stands s at kinds allowed) (kind kinds allowed s at)
   unfolding kind
   kind-sound allowed deep =
-      andThen-sound (number-sound d) (λ n end read. andThen-sound (named n end read (getElem? kinds n) refl)
-      (λ k end (read, is). provided-sound (allowed k) _ _ (λ t. (n, read, is, t)) (λ t. too-deep d read (deep n k is t))))
+      and-then (number-sound d) (λ n end read. and-then (named n end read (getElem? kinds n) refl)
+      (λ k end (read, is). by-provided (allowed k) _ _ _ _ (λ t. (n, read, is, t)) (λ t. too-deep d read (deep n k is t))))
     where
       named : (n end : ℕ) → number s at ≡ Read.found n end → (o : Option K) → getElem? kinds n ≡ o
           → Sound s root (λ k end. (number s at ≡ Read.found n end) × (getElem? kinds n ≡ some k)) (listed o at end)
-      named n end read none e = refused (unlisted-kind d read (unlisted n (unlisted-le kinds n e)))
-      named n end read (some k) e = found (read, e)
+      named n end read none e = fails (unlisted-kind d read (unlisted n (unlisted-le kinds n e)))
+      named n end read (some k) e = holds (read, e)
 
   -- A node past the limit of its path.
   pub never-sound : {A : Type 0} {P : A → ℕ → Type 0} → ((n : ℕ) → n < length kinds → TooDeep f n)
       → Sound s root P (andThen (kind kinds never s at) (λ k end. Read.refused 7 at))
-  never-sound deep = andThen-sound (kind-sound never (λ n k is t. deep n (listed-lt kinds n is))) (λ k end h. absurd (h .3))
+  never-sound deep = and-then (kind-sound never (λ n k is t. deep n (listed-lt kinds n is))) (λ k end h. absurd (h .3))

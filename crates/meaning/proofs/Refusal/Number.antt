@@ -8,7 +8,8 @@ use lib.ListN.{length, drop}
 use Rattle.meaning.specs.Number.{Read, number, firstByte, secondByte}
 use Rattle.meaning.specs.Refusal.{Field, Due, Refusal, ended-early, bad-form}
 use Rattle.meaning.specs.Refusal.{EndsEarly, no-byte, one-byte, Malformed, second-zero, second-over}
-use Rattle.meaning.proofs.Refusal.Sound.{Sound, found, refused, provided-sound, test-sound, as-found}
+use Rattle.meaning.proofs.Reader.{holds, fails, by-provided, by-test, as-found}
+use Rattle.meaning.proofs.Refusal.Sound.{Sound}
 
 -- A second byte that fails the test is 0 or over 127.
 malformed : {b : ℕ} (c : ℕ) {rest : List ℕ} → 128 ≤ b → T (not (leb 1 c && leb c 127)) → Malformed (b ∷ c ∷ rest)
@@ -23,12 +24,12 @@ number-sound {s} {root} {at} d = as-found (first (drop at s) (ended-early d) (ba
   where
     second : (b : ℕ) (l : List ℕ) → 128 ≤ b → (EndsEarly (b ∷ l) → Refusal s root 2 (length s))
         → (Malformed (b ∷ l) → Refusal s root 3 at) → Sound s root (λ n end. Unit {0}) (secondByte (length s) at b l)
-    second b [] h early bad = refused (early (one-byte h))
+    second b [] h early bad = fails (early (one-byte h))
     second b (c ∷ rest) h early bad =
-        provided-sound (leb 1 c && leb c 127) _ _ (λ t. tt) (λ t. bad (malformed c h t))
+        by-provided (leb 1 c && leb c 127) _ _ _ _ (λ t. tt) (λ t. bad (malformed c h t))
 
     first : (l : List ℕ) → (EndsEarly l → Refusal s root 2 (length s)) → (Malformed l → Refusal s root 3 at)
         → Sound s root (λ n end. Unit {0}) (firstByte (length s) at l)
-    first [] early bad = refused (early no-byte)
+    first [] early bad = fails (early no-byte)
     first (b ∷ rest) early bad =
-        test-sound (ltb b 128) _ _ (λ t. found tt) (λ t. second b rest (nltb→le b 128 t) early bad)
+        by-test (Sound s root (λ n end. Unit {0})) (ltb b 128) (λ t. holds tt) (λ t. second b rest (nltb→le b 128 t) early bad)

@@ -11,7 +11,8 @@ use Rattle.meaning.specs.Number.{Read}
 use Rattle.meaning.specs.Process.{Process}
 use Rattle.meaning.specs.Reading as Reader
 use Rattle.meaning.specs.Refusal.{Field, Due, in-process, Binder, TooDeep, process-node, processFields}
-use Rattle.meaning.proofs.Refusal.Sound.{Leaves, Reads, found, andThen-sound, through}
+use Rattle.meaning.proofs.Reader.{holds, and-then}
+use Rattle.meaning.proofs.Refusal.Sound.{Leaves, Reads, through}
 use Rattle.meaning.proofs.Refusal.Kind.{kind-sound, never-sound}
 use Rattle.meaning.proofs.Refusal.Term.{term-sound}
 
@@ -39,26 +40,26 @@ module _ {s : List ℕ} {root : Field} where
       → (k : ProcessKind) (at : ℕ) (fs : List Field) → Due s root at (processFields left scope k ++ fs)
       → Leaves s root fs (Reader.processFields part scope s k at)
   unfolding Reader.processFields
-  fields-sound left scope part h ProcessKind.nil at fs d = found d
-  fields-sound left scope part h ProcessKind.new at fs d = through (h (suc scope)) d (λ P end d. found d)
+  fields-sound left scope part h ProcessKind.nil at fs d = holds d
+  fields-sound left scope part h ProcessKind.new at fs d = through (h (suc scope)) d (λ P end d. holds d)
   fields-sound left scope part h ProcessKind.output at fs d =
       through (term-sound 8 scope) d (λ C e₁ d. through (term-sound 8 scope) d (λ M e₂ d.
-      through (h scope) d (λ P end d. found d)))
+      through (h scope) d (λ P end d. holds d)))
   fields-sound left scope part h ProcessKind.input at fs d =
-      through (term-sound 8 scope) d (λ C e₁ d. through (h (suc scope)) d (λ P end d. found d))
+      through (term-sound 8 scope) d (λ C e₁ d. through (h (suc scope)) d (λ P end d. holds d))
   fields-sound left scope part h ProcessKind.if at fs d =
       through (term-sound 8 scope) d (λ M e₁ d. through (term-sound 8 scope) d (λ N e₂ d.
-      through (h scope) d (λ P e₃ d. through (h scope) d (λ Q end d. found d))))
+      through (h scope) d (λ P e₃ d. through (h scope) d (λ Q end d. holds d))))
   fields-sound left scope part h ProcessKind.let-in at fs d =
-      through (term-sound 8 scope) d (λ M e₁ d. through (h (suc scope)) d (λ P end d. found d))
+      through (term-sound 8 scope) d (λ M e₁ d. through (h (suc scope)) d (λ P end d. holds d))
   fields-sound left scope part h ProcessKind.par at fs d =
-      through (h scope) d (λ P e₁ d. through (h scope) d (λ Q end d. found d))
-  fields-sound left scope part h ProcessKind.repl at fs d = through (h scope) d (λ P end d. found d)
+      through (h scope) d (λ P e₁ d. through (h scope) d (λ Q end d. holds d))
+  fields-sound left scope part h ProcessKind.repl at fs d = through (h scope) d (λ P end d. holds d)
 
   pub process-sound : (left scope : ℕ) → Reads s root (Field.process left scope) (Reader.process left scope s)
   unfolding Reader.process
   process-sound zero scope at fs d = never-sound d processKinds (λ n h. h) (λ n h. process-node h)
   process-sound (suc left) scope at fs d =
-      andThen-sound (kind-sound d processKinds (λ n h. h) (Reader.roomFor scope) (λ n k is t. no-room k is t))
+      and-then (kind-sound d processKinds (λ n h. h) (Reader.roomFor scope) (λ n k is t. no-room k is t))
       (λ k end (n, read, is, t). fields-sound left scope (λ n e. Reader.process left n s e) (process-sound left)
       k end fs (in-process d read is (room scope t)))

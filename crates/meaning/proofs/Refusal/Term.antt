@@ -7,7 +7,8 @@ use Rattle.meaning.specs.Number.{Read}
 use Rattle.meaning.specs.Term.{Term}
 use Rattle.meaning.specs.Reading as Reader
 use Rattle.meaning.specs.Refusal.{Field, Due, named, indexed, in-term, name-over, out-of-scope, term-node, termFields}
-use Rattle.meaning.proofs.Refusal.Sound.{Leaves, Reads, found, andThen-sound, provided-sound, through}
+use Rattle.meaning.proofs.Reader.{holds, and-then, by-provided}
+use Rattle.meaning.proofs.Refusal.Sound.{Leaves, Reads, through}
 use Rattle.meaning.proofs.Refusal.Number.{number-sound}
 use Rattle.meaning.proofs.Refusal.Kind.{kind-sound, never-sound}
 
@@ -18,18 +19,18 @@ module _ {s : List ℕ} {root : Field} where
       → Leaves s root fs (Reader.termFields part scope s k at)
   unfolding Reader.termFields
   fields-sound left scope part h TermKind.name at fs d =
-      andThen-sound (number-sound d) (λ n end read.
-      provided-sound (leb n 255) _ _ (λ t. named d read (leb→le n 255 t)) (λ t. name-over d read (nleb→lt n 255 t)))
+      and-then (number-sound d) (λ n end read.
+      by-provided (leb n 255) _ _ _ _ (λ t. named d read (leb→le n 255 t)) (λ t. name-over d read (nleb→lt n 255 t)))
   fields-sound left scope part h TermKind.variable at fs d =
-      andThen-sound (number-sound d) (λ k end read.
-      provided-sound (ltb k scope) _ _ (λ t. indexed d read (ltb→lt k scope t)) (λ t. out-of-scope d read (nltb→le k scope t)))
-  fields-sound left scope part h (TermKind.proj side) at fs d = through h d (λ t end d. found d)
+      and-then (number-sound d) (λ k end read.
+      by-provided (ltb k scope) _ _ _ _ (λ t. indexed d read (ltb→lt k scope t)) (λ t. out-of-scope d read (nltb→le k scope t)))
+  fields-sound left scope part h (TermKind.proj side) at fs d = through h d (λ t end d. holds d)
   fields-sound left scope part h (TermKind.binary b) at fs d =
-      through h d (λ t mid d. through h d (λ u end d. found d))
+      through h d (λ t mid d. through h d (λ u end d. holds d))
 
   pub term-sound : (left scope : ℕ) → Reads s root (Field.term left scope) (Reader.term left scope s)
   unfolding Reader.term
   term-sound zero scope at fs d = never-sound d termKinds (λ n h. h) (λ n h. term-node h)
   term-sound (suc left) scope at fs d =
-      andThen-sound (kind-sound d termKinds (λ n h. h) Reader.always (λ n k is t. absurd t)) (λ k end (n, read, is, t).
+      and-then (kind-sound d termKinds (λ n h. h) Reader.always (λ n k is t. absurd t)) (λ k end (n, read, is, t).
       fields-sound left scope (Reader.term left scope s) (term-sound left scope) k end fs (in-term d read is))

@@ -13,7 +13,8 @@ use Rattle.meaning.specs.Number.{Read, found, refused, number, firstByte
 use Rattle.meaning.specs.Refusal.{Field, termFields, processFields, formulaFields, Binder, StepKind}
 use Rattle.meaning.specs.Refusal.{Due, start, named, indexed, in-term, in-process, in-formula}
 use Rattle.meaning.specs.Refusal.{Refusal, EndsEarly, Malformed, Unlisted, TooDeep}
-use Rattle.meaning.proofs.Refusal.Sound.{Sound, Ends}
+use Rattle.meaning.proofs.Reader.{Answers}
+use Rattle.meaning.proofs.Refusal.Sound.{Ends}
 
 -- A point of the pass: the fields that are due and their position, or a refusal.
 abbrev Point : Type 0
@@ -146,5 +147,5 @@ one-refusal t t′ = let e = pass-one (outcome t) (outcome t′) in (cc, cc)
 -- A reader's answer is the refusal wherever there is one.
 pub as-refusal : {s : List ℕ} {root : Field} {A : Type 0} {r : Read A} {n place : ℕ} → Ends s root r → Refusal s root n place
     → r ≡ refused n place
-as-refusal (Sound.found (d, h)) t = let e = pass-one (onward d (ends (holds h))) (outcome t) in cc
-as-refusal (Sound.refused t′) t = let e = one-refusal t′ t in cc
+as-refusal (Answers.holds (d, h)) t = let e = pass-one (onward d (ends (holds h))) (outcome t) in cc
+as-refusal (Answers.fails t′) t = let e = one-refusal t′ t in cc
