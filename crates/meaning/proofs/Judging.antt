@@ -1,20 +1,22 @@
 -- Where no visit met a limit, the judged truth is the truth of the table ("Judging and its count"). Assumes nothing.
+pub mod Alike
+pub mod Visits
 use mathlib.Core.Path.{_≡_, refl, sym, ap, ap₂, _∙_}
 use mathlib.Core.Bool.{Bool, true, false, _&&_, _||_, true≢false}
 use mathlib.Core.Bool
 use mathlib.Core.List.{List, [], _∷_, _++_, map, flatMap, map-map, map-id, map-append}
-use Rattle.meaning.specs.Term.{Recipe}
-use Rattle.meaning.specs.Formula.{Label, Formula, equal, not, and, step}
-use Rattle.meaning.specs.State.{State}
-use Rattle.meaning.specs.Step.{Offer, offer, Meeting, meeting}
-use Rattle.meaning.specs.Enumeration.{offers, silents, sent, taken, met, steps}
-use Rattle.meaning.specs.Truth.{anyOf, holds}
-use Rattle.meaning.specs.Visits.{Arrival, arrived, sentArrivals, takenArrivals, metArrival, arrivals, at, meets}
+use Rattle.meaning.specs.Messages.Term.{Recipe}
+use Rattle.meaning.specs.Bytes.Formula.{Label, Formula, equal, not, and, step}
+use Rattle.meaning.specs.Steps.State.{State}
+use Rattle.meaning.specs.Steps.Step.{Offer, offer, Meeting, meeting}
+use Rattle.meaning.specs.Steps.Enumeration.{offers, silents, sent, taken, met, steps}
+use Rattle.meaning.specs.Logic.Truth.{anyOf, holds}
+use Rattle.meaning.specs.Judging.Visits.{Arrival, arrived, sentArrivals, takenArrivals, metArrival, arrivals, at, meets}
 use Rattle.meaning.specs.Judging.{Judgement, visit, someOf, judge}
 use Rattle.meaning.specs.Theorems.{JudgedTruth}
 use Rattle.meaning.proofs.Test.{neither, none-passes}
-use Rattle.meaning.proofs.Truth.{truthEvaluated}
-use Rattle.meaning.proofs.Visits.{visitsCounted}
+use Rattle.meaning.proofs.Logic.Truth.{truthEvaluated}
+use Rattle.meaning.proofs.Judging.Visits.{visitsCounted}
 
 -- Arrivals are the steps of the enumeration.
 abbrev states : List Arrival → List State

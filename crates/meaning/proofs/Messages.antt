@@ -1,15 +1,18 @@
 -- Messages are equal by the equations exactly when their normal forms are the same, and the test decides it ("Messages").
 -- `normal` contracts each node over the normal forms of its parts. Assumes nothing.
+pub mod Same
+pub mod Contraction
+pub mod Renaming
 use mathlib.Core.Path.{_≡_, refl, sym, _∙_, ap, ap₂}
 use mathlib.Core.Logic.{∥∥₁-elim}
 use lib.Dec.{T-prop}
-use Rattle.meaning.specs.Term.{fst, snd, Message, leaf, proj, binary}
-use Rattle.meaning.specs.Equation.{projected, undone, Normal}
-use Rattle.meaning.specs.Equation.{_≈_, equation, reflexive, symmetric, transitive, under-proj, under-binary}
-use Rattle.meaning.specs.Normal.{project, build, normal, equal}
+use Rattle.meaning.specs.Messages.Term.{fst, snd, Message, leaf, proj, binary}
+use Rattle.meaning.specs.Messages.Equation.{projected, undone, Normal}
+use Rattle.meaning.specs.Messages.Equation.{_≈_, equation, reflexive, symmetric, transitive, under-proj, under-binary}
+use Rattle.meaning.specs.Messages.Normal.{project, build, normal, equal}
 use Rattle.meaning.specs.Theorems.{EqualByNormalForms, NormalForms, EqualityDecided}
-use Rattle.meaning.proofs.Same.{same-sound, same-refl}
-use Rattle.meaning.proofs.Contraction.{contract-equal, stuck, normal-parts, contract-normal, contract-undone}
+use Rattle.meaning.proofs.Messages.Same.{same-sound, same-refl}
+use Rattle.meaning.proofs.Messages.Contraction.{contract-equal, stuck, normal-parts, contract-normal, contract-undone}
 
 pub normalForms : NormalForms
 unfolding normal

@@ -7,7 +7,7 @@ use lib.Dec.{T}
 use lib.Ieee.Bits.{is-true}
 use mir.Facts.{or-yes}
 use Rattle.meaning.specs.Places.{Some, here, there, Every, none, _also_}
-use Rattle.meaning.specs.Truth.{anyOf}
+use Rattle.meaning.specs.Logic.Truth.{anyOf}
 
 pub is-false : (b : Bool) → ¬ (T b) → b ≡ false
 is-false true h = absurd (h tt)

@@ -1,5 +1,7 @@
 -- The verdict is the answer that the rules give, and demand 3, both halves: exactly when a finding is accepted, and what an
 -- accepted finding excludes. Assumes nothing.
+pub mod Sorting
+pub mod Work
 use mathlib.Core.Path.{_≡_, refl, sym, ap, ap₂, _∙_, subst}
 use mathlib.Core.Logic.{_↔_}
 use mathlib.Core.Bool.{Bool, true, false, _||_}
@@ -10,23 +12,23 @@ use borrow.Author.Tests.{ltb-true, ltb-false, lt-ltb, le-ltb}
 use lib.Dec.{T, ltb}
 use lib.Ieee.Bits.{is-true}
 use lib.ListN.{length-append}
-use Rattle.meaning.specs.Process.{Process}
-use Rattle.meaning.specs.Formula.{Formula}
-use Rattle.meaning.specs.WellFormed.{IsModel}
-use Rattle.meaning.specs.State.{start}
-use Rattle.meaning.specs.Truth.{TrueOf, anyOf}
-use Rattle.meaning.specs.Visits.{startArrival, visits, meets, visitsBoth, countOf, MeetsNoLimit}
+use Rattle.meaning.specs.Bytes.Process.{Process}
+use Rattle.meaning.specs.Bytes.Formula.{Formula}
+use Rattle.meaning.specs.Bytes.WellFormed.{IsModel}
+use Rattle.meaning.specs.Steps.State.{start}
+use Rattle.meaning.specs.Logic.Truth.{TrueOf, anyOf}
+use Rattle.meaning.specs.Judging.Visits.{startArrival, visits, meets, visitsBoth, countOf, MeetsNoLimit}
 use Rattle.meaning.specs.Judging.{judgeModel}
 use Rattle.meaning.specs.Verdict.{Answer, Input, good, bad, ranked, judged, verdictOn, verdict}
-use Rattle.meaning.specs.Answered.{Sorted, formed, Ranked, over-budget, limit-met, false-of-first, true-of-both, accepted, Answered, turned-back}
+use Rattle.meaning.specs.Verdict.Answered.{Sorted, formed, Ranked, over-budget, limit-met, false-of-first, true-of-both, accepted, Answered, turned-back}
 use Rattle.meaning.specs.Theorems.{VerdictExact, AcceptedExcludes, Acceptable, AcceptedExactly}
 use Rattle.meaning.proofs.Test.{is-false, some-passes, passes-some, none-passes, passes-none, any-append, some-map}
 use Rattle.meaning.proofs.Every.{every-parts}
-use Rattle.meaning.proofs.Reading.{modelsRead}
-use Rattle.meaning.proofs.Bisimulation.{excluded}
-use Rattle.meaning.proofs.Visits.{visitsCounted}
+use Rattle.meaning.proofs.Bytes.Reading.{modelsRead}
+use Rattle.meaning.proofs.Logic.Bisimulation.{excluded}
+use Rattle.meaning.proofs.Judging.Visits.{visitsCounted}
 use Rattle.meaning.proofs.Judging.{judgedTruth}
-use Rattle.meaning.proofs.Input.{sorted, sorted-once, turned-back-by}
+use Rattle.meaning.proofs.Verdict.Sorting.{sorted, sorted-once, turned-back-by}
 
 -- Two models and a formula.
 module _ (P Q : Process) (F : Formula) (budget : ℕ) where

@@ -5,14 +5,14 @@ use mathlib.Core.Bool.{true, false}
 use mathlib.Core.List.{List, [], _∷_, _++_, map}
 use Prim.Native.Nat.{ℕ, zero, suc}
 use lib.ListN.{length, replicate}
-use Rattle.meaning.specs.Term.{Term, Message, leaf, proj, binary, fst, snd, enc, dec, pair, cipher, name, variable, public, private}
-use Rattle.meaning.specs.Normal
-use Rattle.meaning.specs.Process.{Prefix, Process, nil, new, act, if, let-in, par, repl}
-use Rattle.meaning.specs.Formula.{Label, Formula}
-use Rattle.meaning.specs.Number.{found, number}
-use Rattle.meaning.specs.Encoding.{encodeProcess, encodeFormula}
-use Rattle.meaning.specs.State.{Thread, State, start}
-use Rattle.meaning.specs.Enumeration.{steps}
+use Rattle.meaning.specs.Messages.Term.{Term, Message, leaf, proj, binary, fst, snd, enc, dec, pair, cipher, name, variable, public, private}
+use Rattle.meaning.specs.Messages.Normal
+use Rattle.meaning.specs.Bytes.Process.{Prefix, Process, nil, new, act, if, let-in, par, repl}
+use Rattle.meaning.specs.Bytes.Formula.{Label, Formula}
+use Rattle.meaning.specs.Bytes.Number.{found, number}
+use Rattle.meaning.specs.Bytes.Encoding.{encodeProcess, encodeFormula}
+use Rattle.meaning.specs.Steps.State.{Thread, State, start}
+use Rattle.meaning.specs.Steps.Enumeration.{steps}
 use Rattle.meaning.specs.Verdict.{verdict}
 use Rattle.meaning.specs.Places.{Every}
 

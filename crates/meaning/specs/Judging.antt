@@ -1,14 +1,16 @@
 -- Judging a formula at a state in one pass: its truth, its count, and whether a visit met a limit ("Judging and its count").
 -- Assumes nothing.
+pub mod Limits
+pub mod Visits
 use Prim.Native.Nat.{ℕ, _+_}
 use mathlib.Core.Bool.{Bool, true, false, _&&_, _||_}
 use mathlib.Core.Bool
 use mathlib.Core.List.{List, [], _∷_, map}
-use Rattle.meaning.specs.Normal
-use Rattle.meaning.specs.Process.{Process}
-use Rattle.meaning.specs.Formula.{Formula}
-use Rattle.meaning.specs.State.{written}
-use Rattle.meaning.specs.Visits.{Arrival, startArrival, arrivals, at, meets}
+use Rattle.meaning.specs.Messages.Normal
+use Rattle.meaning.specs.Bytes.Process.{Process}
+use Rattle.meaning.specs.Bytes.Formula.{Formula}
+use Rattle.meaning.specs.Steps.State.{written}
+use Rattle.meaning.specs.Judging.Visits.{Arrival, startArrival, arrivals, at, meets}
 
 -- Truth, the number of visits, and whether one of them met a limit.
 pub record Judgement : Type 0 where

@@ -8,28 +8,28 @@ use mathlib.Core.List.{List}
 use Prim.Native.Nat.{ℕ, _+_, _≤_, _<_}
 use lib.Dec.{T}
 use lib.ListN.{length, getElem?}
-use Rattle.meaning.specs.Term.{Message}
-use Rattle.meaning.specs.Equation.{_≈_, Equal, Normal}
-use Rattle.meaning.specs.Normal.{normal, equal}
-use Rattle.meaning.specs.Process.{Process}
-use Rattle.meaning.specs.Formula.{Label, Formula}
-use Rattle.meaning.specs.Scope.{FormulaScoped}
-use Rattle.meaning.specs.WellFormed.{Bytes, IsModel, IsFormula}
-use Rattle.meaning.specs.Number.{found, refused}
-use Rattle.meaning.specs.Reading.{readModel, readFormula}
-use Rattle.meaning.specs.Refusal.{Refusal, process, formula}
+use Rattle.meaning.specs.Messages.Term.{Message}
+use Rattle.meaning.specs.Messages.Equation.{_≈_, Equal, Normal}
+use Rattle.meaning.specs.Messages.Normal.{normal, equal}
+use Rattle.meaning.specs.Bytes.Process.{Process}
+use Rattle.meaning.specs.Bytes.Formula.{Label, Formula}
+use Rattle.meaning.specs.Bytes.Scope.{FormulaScoped}
+use Rattle.meaning.specs.Bytes.WellFormed.{Bytes, IsModel, IsFormula}
+use Rattle.meaning.specs.Bytes.Number.{found, refused}
+use Rattle.meaning.specs.Bytes.Reading.{readModel, readFormula}
+use Rattle.meaning.specs.Bytes.Refusal.{Refusal, process, formula}
 use Rattle.meaning.specs.Places.{Some, Every, OneToOne}
-use Rattle.meaning.specs.State.{Thread, State, start}
-use Rattle.meaning.specs.Freshness.{ThreadBelow, NamesMade}
-use Rattle.meaning.specs.Limits.{overOffers}
-use Rattle.meaning.specs.Step.{Step}
-use Rattle.meaning.specs.Enumeration.{steps}
-use Rattle.meaning.specs.Truth.{True, TrueOf, anyOf, holds}
-use Rattle.meaning.specs.Bisimulation.{outputs, Bisimulation}
-use Rattle.meaning.specs.Visits.{Arrival, meets, visits, countOf, MeetsNoLimit}
+use Rattle.meaning.specs.Steps.State.{Thread, State, start}
+use Rattle.meaning.specs.Steps.Freshness.{ThreadBelow, NamesMade}
+use Rattle.meaning.specs.Judging.Limits.{overOffers}
+use Rattle.meaning.specs.Steps.Step.{Step}
+use Rattle.meaning.specs.Steps.Enumeration.{steps}
+use Rattle.meaning.specs.Logic.Truth.{True, TrueOf, anyOf, holds}
+use Rattle.meaning.specs.Logic.Bisimulation.{outputs, Bisimulation}
+use Rattle.meaning.specs.Judging.Visits.{Arrival, meets, visits, countOf, MeetsNoLimit}
 use Rattle.meaning.specs.Judging.{judge}
 use Rattle.meaning.specs.Verdict.{Answer, workBytes, verdict, workAfter}
-use Rattle.meaning.specs.Answered.{Formed, Answered}
+use Rattle.meaning.specs.Verdict.Answered.{Formed, Answered}
 
 -- Demand 2, messages: equal by the equations exactly when the normal forms are the same, and the test decides it.
 abbrev pub EqualByNormalForms : Type 0

@@ -1,14 +1,15 @@
 -- The verdict on a finding: four numbers, and the work bytes after ("Turned back for the input", "Turned back for the state").
 -- Assumes nothing.
+pub mod Answered
 use Prim.Native.Nat.{ℕ, _+_}
 use mathlib.Core.Bool.{Bool, true, false, _||_}
 use mathlib.Core.List.{List, _++_}
 use lib.Dec.{ltb}
 use lib.ListN.{length, drop, replicate}
-use Rattle.meaning.specs.Process.{Process}
-use Rattle.meaning.specs.Formula.{Formula}
-use Rattle.meaning.specs.Number.{Read, found, refused}
-use Rattle.meaning.specs.Reading.{readModel, readFormula}
+use Rattle.meaning.specs.Bytes.Process.{Process}
+use Rattle.meaning.specs.Bytes.Formula.{Formula}
+use Rattle.meaning.specs.Bytes.Number.{Read, found, refused}
+use Rattle.meaning.specs.Bytes.Reading.{readModel, readFormula}
 use Rattle.meaning.specs.Judging.{judgeModel}
 
 pub record Answer : Type 0 where

@@ -1,0 +1,5 @@
+-- Bytes: reading is exact and refusals are exact ("Bytes", "Turned back for the input"). Assumes nothing.
+pub mod Reader
+pub mod Reading
+pub mod Refusal
+pub mod Formed

@@ -1,0 +1,3 @@
+-- Classical FM and strong early bisimulation ("Steps", last paragraph). Assumes nothing.
+pub mod Truth
+pub mod Bisimulation

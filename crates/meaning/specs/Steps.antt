@@ -1,0 +1,6 @@
+-- Steps: states, the step rules, and the steps of a state as a list ("Steps"). Assumes nothing.
+pub mod State
+pub mod Step
+pub mod Copies
+pub mod Enumeration
+pub mod Freshness
