@@ -3,7 +3,7 @@ use Prim.Native.Nat.{ℕ, zero, suc}
 use mathlib.Core.List.{List, [], _∷_, _++_}
 use lib.ListN.{getD}
 use Rattle.meaning.specs.Places.{Every, none, _also_}
-use Rattle.meaning.specs.Steps.Step.{Split, here, there}
+use Rattle.meaning.specs.Steps.Offer.{Split, here, there}
 
 module _ {A : Type 0} {P : A → Type 0} where
   pub every-map : {Q : A → Type 0} → ((x : A) → P x → Q x) → {xs : List A} → Every P xs → Every Q xs

@@ -8,8 +8,10 @@ use mathlib.Core.List.{List, [], _∷_, _++_, map, flatMap, map-map, map-id, map
 use Rattle.meaning.specs.Messages.Term.{Recipe}
 use Rattle.meaning.specs.Bytes.Formula.{Label, Formula, equal, not, and, step}
 use Rattle.meaning.specs.Steps.State.{State}
-use Rattle.meaning.specs.Steps.Step.{Offer, offer, Meeting, meeting}
-use Rattle.meaning.specs.Steps.Enumeration.{offers, silents, sent, taken, met, steps}
+use Rattle.meaning.specs.Steps.Offer.{Offer, offer}
+use Rattle.meaning.specs.Steps.Silent.{Meeting, meeting}
+use Rattle.meaning.specs.Steps.Step.{afterSilent}
+use Rattle.meaning.specs.Steps.Enumeration.{offers, silents, sent, taken, steps}
 use Rattle.meaning.specs.Logic.Truth.{anyOf, holds}
 use Rattle.meaning.specs.Judging.Visits.{Arrival, arrived, sentArrivals, takenArrivals, metArrival, arrivals, at, meets}
 use Rattle.meaning.specs.Judging.{Judgement, visit, someOf, judge}
@@ -37,9 +39,9 @@ sent-states S R (offer ρ p P f m) = states-arrived _ _
 taken-states : (S : State) (R N : Recipe) (o : Offer) → states (takenArrivals S R N o) ≡ taken S R N o
 taken-states S R N (offer ρ p P f m) = states-arrived _ _
 
-met-states : (S : State) (ws : List Meeting) → states (map (metArrival S) ws) ≡ map (met S) ws
+met-states : (S : State) (ws : List Meeting) → states (map (metArrival S) ws) ≡ map (afterSilent S) ws
 met-states S [] = refl
-met-states S (meeting ρ M P σ Q f k ∷ ws) = ap (λ r. met S (meeting ρ M P σ Q f k) ∷ r) (met-states S ws)
+met-states S (meeting ρ M P σ Q f k ∷ ws) = ap (λ r. afterSilent S (meeting ρ M P σ Q f k) ∷ r) (met-states S ws)
 
 pub arrivals-steps : (S : State) (a : Label) → states (arrivals S a) ≡ steps S a
 unfolding arrivals steps

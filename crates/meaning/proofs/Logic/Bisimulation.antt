@@ -11,6 +11,7 @@ use Rattle.meaning.specs.Bytes.Formula.{Label, Formula, equal, not, and,
 use Rattle.meaning.specs.Bytes.Scope.{bindsLabel, LabelScoped, FormulaScoped}
 use Rattle.meaning.specs.Messages.Term.{Message}
 use Rattle.meaning.specs.Steps.State.{Bound, _▸_, worked, State}
+use Rattle.meaning.specs.Steps.Silent.{meeting}
 use Rattle.meaning.specs.Steps.Step.{Step, output, input, silent}
 use Rattle.meaning.specs.Logic.Truth.{True, holds}
 use Rattle.meaning.specs.Logic.Bisimulation.{outputs, Matched, Bisimulation}
@@ -24,7 +25,7 @@ snoc-length ρ m = omega (arith, length-append ρ (m ∷ []))
 step-outputs : {S U : State} {a : Label} → Step S a U → outputs U ≡ bindsLabel a + outputs S
 step-outputs {S} (output {ρ = ρ} {M = M} d e) = snoc-length (S .aliases) (worked ρ M)
 step-outputs (input d e) = omega arith
-step-outputs (silent d) = omega arith
+step-outputs (silent {w = meeting ρ M P σ Q f k} d) = omega arith
 
 -- A step formula is carried along, either way, where steps are matched and its body is carried along.
 carried {ℓ} : (R : State → State → Type ℓ) (F : Formula) {S U : State} (a : Label)

@@ -10,8 +10,9 @@ use Rattle.meaning.specs.Messages.Equation.{Equal}
 use Rattle.meaning.specs.Bytes.Process.{Prefix}
 use Rattle.meaning.specs.Bytes.Formula.{Label}
 use Rattle.meaning.specs.Steps.State.{written, State}
-use Rattle.meaning.specs.Steps.Step.{Offer, offer, meeting, afterOutput, afterInput, Step}
-use Rattle.meaning.specs.Steps.Enumeration.{sent, taken, met, steps}
+use Rattle.meaning.specs.Steps.Offer.{Offer, offer}
+use Rattle.meaning.specs.Steps.Step.{afterOutput, afterInput, afterSilent, Step}
+use Rattle.meaning.specs.Steps.Enumeration.{sent, taken, steps}
 use Rattle.meaning.specs.Theorems.{StepsEnumerated}
 use Places.{correspondence, some-any, Derived, by, derived, Lists, nothing, inverted, mapped, chained, if-equal}
 use Offers.{offers-listed}
@@ -57,9 +58,9 @@ module _ (S : State) where
       (λ G. elim [ by _ (Step.input d e) g ↦ (by _ d (e, g), refl) ])
       (λ G. elim [ by (offer ρ (Prefix.output C M) P f m) d e ↦ absurd e | by (offer ρ (Prefix.input C) P f m) d e ↦ refl ])
   steps-listed Label.silent =
-      inverted (mapped (met S) (silents-listed (S .threads) (S .next)))
-      (λ G. elim [ by (meeting ρ M P σ Q f k) d g ↦ by _ (Step.silent d) g ])
-      (λ G. elim [ by _ (Step.silent d) g ↦ (by _ d g, refl) ]) (λ G. elim [ by (meeting ρ M P σ Q f k) d g ↦ refl ])
+      inverted (mapped (afterSilent S) (silents-listed (S .threads) (S .next)))
+      (λ G. elim [ by w d g ↦ by _ (Step.silent d) g ])
+      (λ G. elim [ by _ (Step.silent d) g ↦ (by _ d g, refl) ]) (λ G. elim [ by w d g ↦ refl ])
 
 pub stepsEnumerated : StepsEnumerated
 stepsEnumerated S a P = correspondence (derived ∙ steps-listed S a .places P ∙ sym (some-any P (steps S a)))

@@ -4,12 +4,13 @@ use Prim.Native.Nat.{ℕ, _≤_}
 use native.Mathlib.Omega.{arith}
 use native.Mathlib.Nat.{le-refl}
 use mathlib.Core.List.{List, _++_}
-use Rattle.meaning.specs.Bytes.Process.{Prefix, Process}
+use Rattle.meaning.specs.Bytes.Process.{Process}
 use Rattle.meaning.specs.Bytes.Formula.{Label}
 use Rattle.meaning.specs.Places.{Every, none, _also_}
 use Rattle.meaning.specs.Steps.State.{Bound, Thread, names, settle, State, start}
-use Rattle.meaning.specs.Steps.Step.{Split, Offer, offer, ThreadOffer, own, copy, ListOffer, Meeting, meeting, Joins, join}
-use Rattle.meaning.specs.Steps.Step.{within, copies, ListSilent, with-left, with-right, Step}
+use Rattle.meaning.specs.Steps.Offer.{Offer, offer, opened, placed, ThreadOffer, own, copy, ListOffer}
+use Rattle.meaning.specs.Steps.Silent.{Meeting, meeting, framed as framedMeeting, Joins, join, within, copies, ListSilent, with-left, with-right}
+use Rattle.meaning.specs.Steps.Step.{Step}
 use Rattle.meaning.specs.Steps.Freshness.{BoundBelow, ThreadBelow, NamesMade}
 use Rattle.meaning.specs.Theorems.{NamesAreMade}
 use Rattle.meaning.proofs.Every.{every-joined, every-split}
@@ -47,39 +48,53 @@ module _ {X : Type 0} {Below : ℕ → X → Type 0} {n m : ℕ} {Bounds : Type 
         every-joined (every-joined (threads-later all before) (w .keeps k le x h)) (threads-later all after);
   }
 
-  -- A list keeps what a thread of it keeps.
-  kept-among : {ts l r : List Thread} {t : Thread} → Split ts l t r → (ThreadBelow n t → Kept Below n m Bounds f) → One n ts
-      → Kept Below n m Bounds (λ x. l ++ f x ++ r)
-  kept-among s kept b = let e = every-split s b in framed (e .0) (e .2) (kept (e .1))
-
   -- What a settled copy keeps from its next name on is kept from the name on at which it was opened.
-  opened : (P : Process) {ρ : Bound} → (One (names P ρ n) (settle P ρ n) → Kept Below (names P ρ n) m Bounds f)
+  copied : (P : Process) {ρ : Bound} → (One (names P ρ n) (settle P ρ n) → Kept Below (names P ρ n) m Bounds f)
       → BoundBelow n ρ → Kept Below n m Bounds f
-  opened P kept b =
+  copied P kept b =
       let s = settled-below P b in
       let w = kept (s .1) in
       record { later = omega arith; bounds = w .bounds; keeps = w .keeps }
+
+-- The same of offers and of meetings.
+offer-later : {n : ℕ} (o : Offer) → OfferBelow n o → n ≤ opened o
+offer-later (offer ρ p P f m) w = w .later
+
+offer-framed : {n : ℕ} (o : Offer) {l r : List Thread} → One n l → One n r → OfferBelow n o
+    → OfferBelow n (placed (λ x. l ++ x ++ r) o)
+offer-framed (offer ρ p P f m) before after w = framed before after w
+
+offer-opened : {n : ℕ} (o : Offer) (P : Process) {ρ : Bound} → (One (names P ρ n) (settle P ρ n) → OfferBelow (names P ρ n) o)
+    → BoundBelow n ρ → OfferBelow n o
+offer-opened (offer σ p Q f m) P kept b = copied P kept b
+
+meeting-framed : {n : ℕ} (w : Meeting) {l r : List Thread} → One n l → One n r → MeetingBelow n w
+    → MeetingBelow n (framedMeeting (λ x. l ++ x ++ r) w)
+meeting-framed (meeting ρ M P σ Q f k) before after w = framed before after w
+
+meeting-opened : {n : ℕ} (w : Meeting) (P : Process) {ρ : Bound}
+    → (One (names P ρ n) (settle P ρ n) → MeetingBelow (names P ρ n) w) → BoundBelow n ρ → MeetingBelow n w
+meeting-opened (meeting σ M Q τ R f k) P kept b = copied P kept b
 
 thread-offer : {n : ℕ} {t : Thread} {o : Offer} → ThreadOffer n t o → ThreadBelow n t → OfferBelow n o
 thread-offer d =
     elim d as (λ n t o d. ThreadBelow n t → OfferBelow n o) (λ n ts o d. One n ts → OfferBelow n o) [
       | own {n = n} ↦ λ b. record { later = le-refl n; bounds = b; keeps = λ k le x h. h }
-      | copy {P = P} (d → h) ↦ λ b. framed none (b also none) (opened P h b)
-      | ListOffer.among s (d → h) ↦ kept-among s h
+      | copy {P = P} {o = o} (d → h) ↦ λ b. offer-framed o none (b also none) (offer-opened o P h b)
+      | ListOffer.among {o = o} s (d → h) ↦ λ b. let c = every-split s b in offer-framed o (c .0) (c .2) (h (c .1))
     ]
 
 list-offer : {n : ℕ} {ts : List Thread} {o : Offer} → ListOffer n ts o → One n ts → OfferBelow n o
-list-offer (ListOffer.among s d) = kept-among s (thread-offer d)
+list-offer (ListOffer.among {o = o} s d) b = let c = every-split s b in offer-framed o (c .0) (c .2) (thread-offer d (c .1))
 
 -- An offer of a copy, from the name on at which it was opened.
 copy-offer : (P : Process) {n : ℕ} {ρ : Bound} {o : Offer} → ListOffer (names P ρ n) (settle P ρ n) o → BoundBelow n ρ
     → OfferBelow n o
-copy-offer P {o = offer σ p Q f m} d b = opened P (list-offer d) b
+copy-offer P {o = o} d b = offer-opened o P (list-offer d) b
 
 -- The rests of a silent step go where their offers put them, and these where `arrange` does.
-joined-below : {n m : ℕ} {ρ : Bound} {p : Prefix} {P : Process} {f : List Thread → List Thread} {i : Offer} {w : Meeting}
-    {arrange : List Thread → List Thread → List Thread} → Joins arrange (offer ρ p P f m) i w
-    → OfferBelow n (offer ρ p P f m) → OfferBelow m i
+joined-below : {n : ℕ} {o i : Offer} {w : Meeting} {arrange : List Thread → List Thread → List Thread} → Joins arrange o i w
+    → OfferBelow n o → OfferBelow (opened o) i
     → ((k : ℕ) → n ≤ k → (x y : List Thread) → One k x → One k y → One k (arrange x y)) → MeetingBelow n w
 joined-below (join e) o i keeps = record {
   later = omega arith;
@@ -90,21 +105,21 @@ joined-below (join e) o i keeps = record {
 list-silent : {n : ℕ} {ts : List Thread} {w : Meeting} → ListSilent n ts w → One n ts → MeetingBelow n w
 list-silent d =
     elim d as (λ n t w d. ThreadBelow n t → MeetingBelow n w) (λ n ts w d. One n ts → MeetingBelow n w) [
-      | within {P = P} (d → h) ↦ λ b. framed none (b also none) (opened P h b)
-      | copies {P = P} d e j ↦ λ b.
-          let o = copy-offer P d b in
-          joined-below j o (copy-offer P e (bound-later (o .later) b))
+      | within {P = P} {w = w} (d → h) ↦ λ b. meeting-framed w none (b also none) (meeting-opened w P h b)
+      | copies {P = P} {o = o} d e j ↦ λ b.
+          let w = copy-offer P d b in
+          joined-below j w (copy-offer P e (bound-later (offer-later o w) b))
           (λ k le x y h g. every-joined (every-joined h g) (bound-later le b also none))
-      | ListSilent.among s (d → h) ↦ kept-among s h
-      | with-left s d e j ↦ λ b.
+      | ListSilent.among {w = w} s (d → h) ↦ λ b. let c = every-split s b in meeting-framed w (c .0) (c .2) (h (c .1))
+      | with-left {o = o} s d e j ↦ λ b.
           let c = every-split s b in
-          let o = thread-offer d (c .1) in
-          joined-below j o (list-offer e (threads-later (o .later) (c .0)))
+          let w = thread-offer d (c .1) in
+          joined-below j w (list-offer e (threads-later (offer-later o w) (c .0)))
           (λ k le x y h g. every-joined (every-joined g h) (threads-later le (c .2)))
-      | with-right s d e j ↦ λ b.
+      | with-right {o = o} s d e j ↦ λ b.
           let c = every-split s b in
-          let o = thread-offer d (c .1) in
-          joined-below j o (list-offer e (threads-later (o .later) (c .2)))
+          let w = thread-offer d (c .1) in
+          joined-below j w (list-offer e (threads-later (offer-later o w) (c .2)))
           (λ k le x y h g. every-joined (every-joined (threads-later le (c .0)) h) g)
     ]
 
@@ -121,7 +136,7 @@ step-made (Step.input {P = P} {N = N} d e) made =
     let aliases = bound-later (o .later) (made .in-aliases) in
     let s = settled-below P (worked-below aliases N (o .bounds)) in
     record { in-threads = o .keeps _ (s .0) _ (s .1); in-aliases = bound-later (s .0) aliases }
-step-made (Step.silent {M = M} {P = P} {Q = Q} d) made =
+step-made (Step.silent {w = meeting ρ M P σ Q f k} d) made =
     let w = list-silent d (made .in-threads) in
     let s = settled-below P (w .bounds .0) in
     let r = settled-below Q (bound-later (s .0) (worked-below (w .bounds .0) M (w .bounds .1))) in

@@ -10,8 +10,10 @@ use Rattle.meaning.specs.Bytes.Process.{Process}
 use Rattle.meaning.specs.Bytes.Formula.{Label, Formula}
 use Rattle.meaning.specs.Places.{Every}
 use Rattle.meaning.specs.Steps.State.{_▸_, worked, names, State, start}
-use Rattle.meaning.specs.Steps.Step.{Offer, offer, Meeting, meeting}
-use Rattle.meaning.specs.Steps.Enumeration.{offers, silents, sent, taken, met}
+use Rattle.meaning.specs.Steps.Offer.{Offer, offer}
+use Rattle.meaning.specs.Steps.Silent.{Meeting, meeting}
+use Rattle.meaning.specs.Steps.Step.{afterSilent}
+use Rattle.meaning.specs.Steps.Enumeration.{offers, silents, sent, taken}
 use Rattle.meaning.specs.Judging.Limits.{overSettling, overState, overRecipes}
 
 -- A state as it is reached, with whether a normal form over 255 nodes arose while it was settled.
@@ -35,7 +37,7 @@ takenArrivals S R N (offer ρ p P f m) =
 
 abbrev pub metArrival : State → Meeting → Arrival
 metArrival S (meeting ρ M P σ Q f k) =
-    arrived (overSettling P ρ k || overSettling Q (σ ▸ worked ρ M) (names P ρ k)) (met S (meeting ρ M P σ Q f k))
+    arrived (overSettling P ρ k || overSettling Q (σ ▸ worked ρ M) (names P ρ k)) (afterSilent S (meeting ρ M P σ Q f k))
 
 unfoldable pub arrivals : State → Label → List Arrival
 arrivals S (Label.output R) = flatMap (sentArrivals S R) (offers (S .next) (S .threads))

@@ -7,7 +7,9 @@ use Rattle.meaning.specs.Messages.Normal.{equal}
 use Rattle.meaning.specs.Bytes.Process.{Prefix, output, input, Process}
 use Rattle.meaning.specs.Bytes.Formula.{Label}
 use Rattle.meaning.specs.Steps.State.{Bound, written, Thread, repl, names, settle, State}
-use Rattle.meaning.specs.Steps.Step.{Offer, offer, Meeting, meeting, afterOutput, afterInput, afterSilent}
+use Rattle.meaning.specs.Steps.Offer.{Offer, offer, placed, opened}
+use Rattle.meaning.specs.Steps.Silent.{Meeting, meeting, framed}
+use Rattle.meaning.specs.Steps.Step.{afterOutput, afterInput, afterSilent}
 use Rattle.meaning.specs.Steps.Copies.{resultOf, paired}
 
 -- A list cut at one of its elements, and all such cuts, left to right.
@@ -26,12 +28,6 @@ abbrev pub threadsOf : {X : Type 0} → List (Thread × X) → List Thread
 threadsOf xs = map (λ x. x .0) xs
 
 -- Offers. Those of a list: thread by thread, what is left and right of the thread staying.
-abbrev pub placed : (List Thread → List Thread) → Offer → Offer
-placed g (offer ρ p P f n) = offer ρ p P (λ x. g (f x)) n
-
-abbrev pub opened : Offer → ℕ
-opened (offer ρ p P f n) = n
-
 unfoldable pub offersAt : ℕ → Cut (Thread × (ℕ → List Offer)) → List Offer
 offersAt n (cut l t r) = map (placed (λ x. threadsOf l ++ x ++ threadsOf r)) (t .1 n)
 
@@ -61,9 +57,6 @@ joined arrange (offer ρ (input C) P f m) (offer σ (input D) Q g k) = []
 joined arrange (offer ρ (input C) P f m) (offer σ (output D N) Q g k) = []
 
 -- Silent steps. First those of a list's threads, thread by thread.
-abbrev pub framed : (List Thread → List Thread) → Meeting → Meeting
-framed g (meeting ρ M P σ Q f k) = meeting ρ M P σ Q (λ x y. g (f x y)) k
-
 unfoldable pub silentAt : ℕ → Cut (Thread × (ℕ → List Meeting)) → List Meeting
 silentAt n (cut l t r) = map (framed (λ x. threadsOf l ++ x ++ threadsOf r)) (t .1 n)
 
@@ -106,10 +99,7 @@ taken S R N (offer ρ (output C M) P f m) = []
 taken S R N (offer ρ (input C) P f m) =
     elim (equal (written ρ C) (written (S .aliases) R)) [ true ↦ afterInput S N ρ P f m ∷ [] | false ↦ [] ]
 
-abbrev pub met : State → Meeting → State
-met S (meeting ρ M P σ Q f k) = afterSilent S ρ M P σ Q f k
-
 unfoldable pub steps : State → Label → List State
 steps S (Label.output R) = flatMap (sent S R) (offers (S .next) (S .threads))
 steps S (Label.input R N) = flatMap (taken S R N) (offers (S .next) (S .threads))
-steps S Label.silent = map (met S) (silents (S .next) (S .threads))
+steps S Label.silent = map (afterSilent S) (silents (S .next) (S .threads))

@@ -7,7 +7,7 @@ use mathlib.Core.List.{List, [], _∷_, _++_, map-append}
 use Rattle.meaning.specs.Messages.Normal.{equal}
 use Rattle.meaning.specs.Bytes.Process.{Prefix, Process}
 use Rattle.meaning.specs.Steps.State.{Bound, written, Thread, act, repl, names, settle}
-use Rattle.meaning.specs.Steps.Step.{here, there}
+use Rattle.meaning.specs.Steps.Offer.{here, there}
 use Rattle.meaning.specs.Steps.Copies.{settled, resultOf, paired}
 use Rattle.meaning.specs.Steps.Enumeration.{Cut, cut}
 use Rattle.meaning.proofs.Steps.Enumeration.Cuts.{chosen, SplitAt}

@@ -5,7 +5,7 @@ use mathlib.Core.Path.{_≡_, refl, _∙_, ap, ap₂, fun-ext}
 use mathlib.Core.Logic.{inl, inr}
 use mathlib.Core.List.{List, [], _∷_, _++_, map, map-map, map-id, flatMap}
 use Rattle.meaning.specs.Steps.State.{Thread}
-use Rattle.meaning.specs.Steps.Step.{Split, here, there}
+use Rattle.meaning.specs.Steps.Offer.{Split, here, there}
 use Rattle.meaning.specs.Steps.Copies.{paired}
 use Rattle.meaning.specs.Steps.Enumeration.{Cut, cut, shift, cuts, threadsOf}
 use Rattle.meaning.proofs.Steps.Enumeration.Places.{Derived, by, Lists, nothing, single, either, inverted, mapped, chained}

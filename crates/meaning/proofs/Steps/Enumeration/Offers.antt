@@ -4,9 +4,9 @@ use mathlib.Core.Path.{_≡_, refl, ap}
 use mathlib.Core.List.{List, [], _∷_, _++_, map}
 use Rattle.meaning.specs.Bytes.Process.{Prefix, Process}
 use Rattle.meaning.specs.Steps.State.{Bound, Thread, act, repl, names, settle}
-use Rattle.meaning.specs.Steps.Step.{Offer, offer, ThreadOffer, own, copy, ListOffer}
+use Rattle.meaning.specs.Steps.Offer.{Offer, ThreadOffer, own, copy, ListOffer, placed}
 use Rattle.meaning.specs.Steps.Copies.{resultOf}
-use Rattle.meaning.specs.Steps.Enumeration.{Cut, cut, placed, offersAt, offersAmong, ownOffer, copyOffers, offersOf, offers}
+use Rattle.meaning.specs.Steps.Enumeration.{Cut, cut, offersAt, offersAmong, ownOffer, copyOffers, offersOf, offers}
 use Rattle.meaning.proofs.Steps.Enumeration.Places.{Derived, by, Lists, single, inverted, mapped}
 use Rattle.meaning.proofs.Steps.Enumeration.Cuts.{chosen, SplitAt, among, among-paired, among-listed}
 use Rattle.meaning.proofs.Steps.Enumeration.Copies.{result-repl, every-thread, every-list}
@@ -35,9 +35,9 @@ ListListed ts = (n : ℕ) → Lists (Derived (ListOffer n ts)) (offers n ts)
 lists : (ts : List Thread) → ((c : Cut Thread) → SplitAt ts c → ThreadListed (chosen c)) → ListListed ts
 lists ts listed n =
     inverted (rw (← offers-among n ts) at (among-listed placed offersOf n ThreadOffer ts listed))
-    (λ G. elim [ by (cut l t r) s (by (offer σ p Q f m) d g) ↦ by _ (ListOffer.among s d) g ])
+    (λ G. elim [ by (cut l t r) s (by o d g) ↦ by _ (ListOffer.among s d) g ])
     (λ G. elim [ by _ (ListOffer.among {l = l} {r} {t} s d) g ↦ (by (cut l t r) s (by _ d g), refl) ])
-    (λ G. elim [ by (cut l t r) s (by (offer σ p Q f m) d g) ↦ refl ])
+    (λ G. elim [ by (cut l t r) s (by o d g) ↦ refl ])
 
 acts : (ρ : Bound) (p : Prefix) (P : Process) → ThreadListed (act ρ p P)
 unfolding offersOf resultOf
@@ -46,8 +46,8 @@ acts ρ p P n = inverted (single _) (λ G g. by _ own g) (λ G. elim [ by _ own 
 repls : (ρ : Bound) (P : Process) → ((n : ℕ) → ListListed (settle P ρ n)) → ThreadListed (repl ρ P)
 repls ρ P copied n =
     inverted (rw (← offers-repl ρ P n) at (mapped (placed (kept ρ P)) (copied n (names P ρ n))))
-    (λ G. elim [ by (offer σ p Q f m) d g ↦ by _ (copy d) g ]) (λ G. elim [ by _ (copy d) g ↦ (by _ d g, refl) ])
-    (λ G. elim [ by (offer σ p Q f m) d g ↦ refl ])
+    (λ G. elim [ by o d g ↦ by _ (copy d) g ]) (λ G. elim [ by _ (copy d) g ↦ (by _ d g, refl) ])
+    (λ G. elim [ by o d g ↦ refl ])
 
 pub offersOf-listed : (t : Thread) → ThreadListed t
 offersOf-listed = every-thread ThreadListed ListListed lists acts repls

@@ -5,10 +5,10 @@ use mathlib.Core.Logic.{_⊎_, inl, inr}
 use mathlib.Core.List.{List, [], _∷_, _++_, map, flatMap}
 use Rattle.meaning.specs.Bytes.Process.{Prefix, output, input, Process}
 use Rattle.meaning.specs.Steps.State.{Bound, written, Thread, act, repl, names, settle}
-use Rattle.meaning.specs.Steps.Step.{Offer, offer, ThreadOffer, ListOffer, Meeting, meeting, Joins, join}
-use Rattle.meaning.specs.Steps.Step.{ThreadSilent, within, copies, ListSilent, with-left, with-right}
+use Rattle.meaning.specs.Steps.Offer.{Offer, offer, ThreadOffer, ListOffer, opened}
+use Rattle.meaning.specs.Steps.Silent.{Meeting, Joins, join, ThreadSilent, within, copies, ListSilent, with-left, with-right, framed}
 use Rattle.meaning.specs.Steps.Copies.{resultOf}
-use Rattle.meaning.specs.Steps.Enumeration.{Cut, cut, cuts, opened, offers, joined, framed, silentAt, pairsAt, silentAmong}
+use Rattle.meaning.specs.Steps.Enumeration.{Cut, cut, cuts, offers, joined, silentAt, pairsAt, silentAmong}
 use Rattle.meaning.specs.Steps.Enumeration.{noSilent, twoCopies, copySilent, silentOf, silents}
 use Rattle.meaning.proofs.Steps.Enumeration.Places.{Derived, by, Lists, nothing, either, inverted, mapped, chained, if-equal}
 use Rattle.meaning.proofs.Steps.Enumeration.Cuts.{chosen, SplitAt, cuts-listed, threads-paired, among, among-paired, among-listed}
@@ -81,9 +81,9 @@ lists : (ts : List Thread) → ((c : Cut Thread) → SplitAt ts c → ThreadList
 lists ts listed n =
     inverted (rw (← silents-among n ts) at (either (among-listed framed silentOf n ThreadSilent ts listed) (pairs-listed n ts)))
     (λ G. elim [
-      | inl (by (cut l t r) s (by (meeting ρ M P σ Q f k) d g)) ↦ by _ (ListSilent.among s d) g
-      | inr (by (cut l t r) s (by (offer σ p Q f m) d (inl (by i e (by w j g))))) ↦ by w (with-left s d e j) g
-      | inr (by (cut l t r) s (by (offer σ p Q f m) d (inr (by i e (by w j g))))) ↦ by w (with-right s d e j) g
+      | inl (by (cut l t r) s (by w d g)) ↦ by _ (ListSilent.among s d) g
+      | inr (by (cut l t r) s (by o d (inl (by i e (by w j g))))) ↦ by w (with-left s d e j) g
+      | inr (by (cut l t r) s (by o d (inr (by i e (by w j g))))) ↦ by w (with-right s d e j) g
     ])
     (λ G. elim [
       | by _ (ListSilent.among {l = l} {r} {t} s d) g ↦ (inl (by (cut l t r) s (by _ d g)), refl)
@@ -91,9 +91,9 @@ lists ts listed n =
       | by w (with-right {l = l} {r} {t} s d e j) g ↦ (inr (by (cut l t r) s (by _ d (inr (by _ e (by w j g))))), refl)
     ])
     (λ G. elim [
-      | inl (by (cut l t r) s (by (meeting ρ M P σ Q f k) d g)) ↦ refl
-      | inr (by (cut l t r) s (by (offer σ p Q f m) d (inl (by i e (by w j g))))) ↦ refl
-      | inr (by (cut l t r) s (by (offer σ p Q f m) d (inr (by i e (by w j g))))) ↦ refl
+      | inl (by (cut l t r) s (by w d g)) ↦ refl
+      | inr (by (cut l t r) s (by o d (inl (by i e (by w j g))))) ↦ refl
+      | inr (by (cut l t r) s (by o d (inr (by i e (by w j g))))) ↦ refl
     ])
 
 acts : (ρ : Bound) (p : Prefix) (P : Process) → ThreadListed (act ρ p P)
@@ -104,11 +104,11 @@ repls : (ρ : Bound) (P : Process) → ((n : ℕ) → ListListed (settle P ρ n)
 repls ρ P copied n =
     inverted (rw (← silent-repl ρ P n) at (either (mapped (framed (kept ρ P)) (copied n (names P ρ n))) (copies-listed n ρ P)))
     (λ G. elim [
-      | inl (by (meeting σ M Q τ R f k) d g) ↦ by _ (within d) g
-      | inr (by (offer σ p Q f m) d (by i e (by w j g))) ↦ by w (copies d e j) g
+      | inl (by w d g) ↦ by _ (within d) g
+      | inr (by o d (by i e (by w j g))) ↦ by w (copies d e j) g
     ])
     (λ G. elim [ by _ (within d) g ↦ (inl (by _ d g), refl) | by w (copies d e j) g ↦ (inr (by _ d (by _ e (by w j g))), refl) ])
-    (λ G. elim [ inl (by (meeting σ M Q τ R f k) d g) ↦ refl | inr (by (offer σ p Q f m) d (by i e (by w j g))) ↦ refl ])
+    (λ G. elim [ inl (by w d g) ↦ refl | inr (by o d (by i e (by w j g))) ↦ refl ])
 
 pub silents-listed : (ts : List Thread) → ListListed ts
 silents-listed = every-list ThreadListed ListListed lists acts repls
