@@ -1,3 +1,3 @@
 -- Steps: the list of steps is that of the rules, and names are new ("Steps"). Assumes nothing.
 pub mod Enumeration
-pub mod Freshness
+pub mod Invariant

@@ -5,4 +5,4 @@ pub mod Silent
 pub mod Step
 pub mod Copies
 pub mod Enumeration
-pub mod Freshness
+pub mod Invariant

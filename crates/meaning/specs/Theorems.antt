@@ -20,7 +20,7 @@ use Rattle.meaning.specs.Bytes.Reading.{readModel, readFormula}
 use Rattle.meaning.specs.Bytes.Refusal.{Refusal, process, formula}
 use Rattle.meaning.specs.Places.{Some, Every, OneToOne}
 use Rattle.meaning.specs.Steps.State.{Thread, State, start}
-use Rattle.meaning.specs.Steps.Freshness.{ThreadBelow, NamesMade}
+use Rattle.meaning.specs.Steps.Invariant.{ThreadStored, Invariant}
 use Rattle.meaning.specs.Judging.Limits.{overOffers}
 use Rattle.meaning.specs.Steps.Step.{Step}
 use Rattle.meaning.specs.Steps.Enumeration.{steps}
@@ -90,14 +90,14 @@ RelatedAgree =
 abbrev pub EqualityBisimulates : Type 0
 EqualityBisimulates = Bisimulation {0} (λ S T. S ≡ T)
 
--- Every state that is reached holds only private names that it has made.
-abbrev pub NamesAreMade : Type 0
-NamesAreMade =
-    ((P : Process) → NamesMade (start P)) × ((S T : State) (a : Label) → Step S a T → NamesMade S → NamesMade T)
+-- Every state that is reached holds normal forms alone, with no private names but those it has made.
+abbrev pub InvariantHolds : Type 0
+InvariantHolds =
+    ((P : Process) → Invariant (start P)) × ((S T : State) (a : Label) → Step S a T → Invariant S → Invariant T)
 
 -- Whichever copy of a repl thread is opened, and however late, the same limits are met: `overOffers` may ask the first alone.
 abbrev pub CopiesAlike : Type 0
-CopiesAlike = (t : Thread) (n m : ℕ) → ThreadBelow n t → n ≤ m → overOffers t m ≡ overOffers t n
+CopiesAlike = (t : Thread) (n m : ℕ) → ThreadStored n t → n ≤ m → overOffers t m ≡ overOffers t n
 
 -- Judging counts the visits, and says whether one of them met a limit.
 abbrev pub VisitsCounted : Type 0

@@ -14,10 +14,10 @@ use Rattle.meaning.specs.Steps.State.{Bound, _▸_, written, worked, Thr
 use Rattle.meaning.specs.Steps.Copies.{settled, resultOf}
 use Rattle.meaning.specs.Logic.Truth.{anyOf}
 use Rattle.meaning.specs.Judging.Limits.{overWhole, over, overSettling, overPrefix, overCopy, overOffers}
-use Rattle.meaning.specs.Steps.Freshness.{MessageBelow, BoundBelow, ThreadBelow}
+use Rattle.meaning.specs.Steps.Invariant.{MessageBelow, BoundStored, ThreadStored}
 use Rattle.meaning.specs.Theorems.{CopiesAlike}
 use Rattle.meaning.proofs.Test.{chosen, any-append}
-use Rattle.meaning.proofs.Steps.Freshness.Settling.{thread-later}
+use Rattle.meaning.proofs.Steps.Invariant.Settling.{thread-later}
 use Rattle.meaning.proofs.Messages.Renaming.{rename, rename-nodes, rename-written, rename-normal, rename-equal}
 
 module _ (n : ℕ) where
@@ -64,9 +64,9 @@ module _ (n : ℕ) where
   rename-below (proj s x) h = ap (proj s) (rename-below x h)
   rename-below (binary b x y) h = ap₂ (binary b) (rename-below x (h .0)) (rename-below y (h .1))
 
-  raised-below : {ρ : Bound} → BoundBelow n ρ → raised ρ ≡ ρ
+  raised-below : {ρ : Bound} → BoundStored n ρ → raised ρ ≡ ρ
   raised-below none = refl
-  raised-below (h also b) = ap₂ _∷_ (rename-below _ h) (raised-below b)
+  raised-below (h also b) = ap₂ _∷_ (rename-below _ (h .1)) (raised-below b)
 
   -- The next name is n or later, and one higher.
   abbrev Next : ℕ → ℕ → Type 0
@@ -108,7 +108,7 @@ module _ (n : ℕ) where
   alike (Process.repl P) ρ k l x =
       (x, refl, λ i j y. let p = alike P ρ i j y in ap (λ b. b || false) (ap₂ _||_ (p .1) (p .2 _ _ (p .0))))
 
-one-later : (t : Thread) (n : ℕ) → ThreadBelow n t → overOffers t (suc n) ≡ overOffers t n
+one-later : (t : Thread) (n : ℕ) → ThreadStored n t → overOffers t (suc n) ≡ overOffers t n
 unfolding settled resultOf anyOf overOffers
 one-later (act ρ (Prefix.output C M) P) n b = refl
 one-later (act ρ (Prefix.input C) P) n b = refl

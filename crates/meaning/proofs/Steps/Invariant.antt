@@ -1,5 +1,5 @@
--- A state holds only private names below its next one, and every step keeps this so ("Steps": names are taken in the order of
--- settling). Assumes nothing.
+-- A state that is reached holds normal forms, with private names below its next one: the start state does, and every step keeps
+-- this so ("Steps"). Assumes nothing.
 use Prim.Native.Nat.{ℕ, _≤_}
 use native.Mathlib.Omega.{arith}
 use native.Mathlib.Nat.{le-refl}
@@ -11,10 +11,10 @@ use Rattle.meaning.specs.Steps.State.{Bound, Thread, names, settle, Stat
 use Rattle.meaning.specs.Steps.Offer.{Offer, offer, opened, placed, ThreadOffer, own, copy, ListOffer}
 use Rattle.meaning.specs.Steps.Silent.{Meeting, meeting, framed as framedMeeting, Joins, join, within, copies, ListSilent, with-left, with-right}
 use Rattle.meaning.specs.Steps.Step.{Step}
-use Rattle.meaning.specs.Steps.Freshness.{BoundBelow, ThreadBelow, NamesMade}
-use Rattle.meaning.specs.Theorems.{NamesAreMade}
+use Rattle.meaning.specs.Steps.Invariant.{BoundStored, ThreadStored, Invariant}
+use Rattle.meaning.specs.Theorems.{InvariantHolds}
 use Rattle.meaning.proofs.Every.{every-joined, every-split}
-use Rattle.meaning.proofs.Steps.Freshness.Settling.{bound-later, threads-later, worked-below, settled-below}
+use Rattle.meaning.proofs.Steps.Invariant.Settling.{bound-later, threads-later, worked-below, settled-below}
 pub mod Settling
 
 -- From the next name n on to the next name m: what is bound, and where x is put among threads. Whatever later number the names in
@@ -22,20 +22,20 @@ pub mod Settling
 record Kept {X : Type 0} (Below : ℕ → X → Type 0) (n m : ℕ) (Bounds : Type 0) (place : X → List Thread) : Type 0 where
   later : n ≤ m
   bounds : Bounds
-  keeps : (k : ℕ) → m ≤ k → (x : X) → Below k x → Every (ThreadBelow k) (place x)
+  keeps : (k : ℕ) → m ≤ k → (x : X) → Below k x → Every (ThreadStored k) (place x)
 
 -- What is put there: one list of threads, or two.
 abbrev One : ℕ → List Thread → Type 0
-One k x = Every (ThreadBelow k) x
+One k x = Every (ThreadStored k) x
 
 abbrev Two : ℕ → List Thread × List Thread → Type 0
 Two k x = One k (x .0) × One k (x .1)
 
 abbrev OfferBelow : ℕ → Offer → Type 0
-OfferBelow n (offer ρ p P f m) = Kept One n m (BoundBelow m ρ) f
+OfferBelow n (offer ρ p P f m) = Kept One n m (BoundStored m ρ) f
 
 abbrev MeetingBelow : ℕ → Meeting → Type 0
-MeetingBelow n (meeting ρ M P σ Q f m) = Kept Two n m (BoundBelow m ρ × BoundBelow m σ) (λ x. f (x .0) (x .1))
+MeetingBelow n (meeting ρ M P σ Q f m) = Kept Two n m (BoundStored m ρ × BoundStored m σ) (λ x. f (x .0) (x .1))
 
 module _ {X : Type 0} {Below : ℕ → X → Type 0} {n m : ℕ} {Bounds : Type 0} {f : X → List Thread} where
   -- Threads that were there stand before and after.
@@ -50,7 +50,7 @@ module _ {X : Type 0} {Below : ℕ → X → Type 0} {n m : ℕ} {Bounds : Type 
 
   -- What a settled copy keeps from its next name on is kept from the name on at which it was opened.
   copied : (P : Process) {ρ : Bound} → (One (names P ρ n) (settle P ρ n) → Kept Below (names P ρ n) m Bounds f)
-      → BoundBelow n ρ → Kept Below n m Bounds f
+      → BoundStored n ρ → Kept Below n m Bounds f
   copied P kept b =
       let s = settled-below P b in
       let w = kept (s .1) in
@@ -65,7 +65,7 @@ offer-framed : {n : ℕ} (o : Offer) {l r : List Thread} → One n l → One n r
 offer-framed (offer ρ p P f m) before after w = framed before after w
 
 offer-opened : {n : ℕ} (o : Offer) (P : Process) {ρ : Bound} → (One (names P ρ n) (settle P ρ n) → OfferBelow (names P ρ n) o)
-    → BoundBelow n ρ → OfferBelow n o
+    → BoundStored n ρ → OfferBelow n o
 offer-opened (offer σ p Q f m) P kept b = copied P kept b
 
 meeting-framed : {n : ℕ} (w : Meeting) {l r : List Thread} → One n l → One n r → MeetingBelow n w
@@ -73,12 +73,12 @@ meeting-framed : {n : ℕ} (w : Meeting) {l r : List Thread} → One n l → One
 meeting-framed (meeting ρ M P σ Q f k) before after w = framed before after w
 
 meeting-opened : {n : ℕ} (w : Meeting) (P : Process) {ρ : Bound}
-    → (One (names P ρ n) (settle P ρ n) → MeetingBelow (names P ρ n) w) → BoundBelow n ρ → MeetingBelow n w
+    → (One (names P ρ n) (settle P ρ n) → MeetingBelow (names P ρ n) w) → BoundStored n ρ → MeetingBelow n w
 meeting-opened (meeting σ M Q τ R f k) P kept b = copied P kept b
 
-thread-offer : {n : ℕ} {t : Thread} {o : Offer} → ThreadOffer n t o → ThreadBelow n t → OfferBelow n o
+thread-offer : {n : ℕ} {t : Thread} {o : Offer} → ThreadOffer n t o → ThreadStored n t → OfferBelow n o
 thread-offer d =
-    elim d as (λ n t o d. ThreadBelow n t → OfferBelow n o) (λ n ts o d. One n ts → OfferBelow n o) [
+    elim d as (λ n t o d. ThreadStored n t → OfferBelow n o) (λ n ts o d. One n ts → OfferBelow n o) [
       | own {n = n} ↦ λ b. record { later = le-refl n; bounds = b; keeps = λ k le x h. h }
       | copy {P = P} {o = o} (d → h) ↦ λ b. offer-framed o none (b also none) (offer-opened o P h b)
       | ListOffer.among {o = o} s (d → h) ↦ λ b. let c = every-split s b in offer-framed o (c .0) (c .2) (h (c .1))
@@ -88,7 +88,7 @@ list-offer : {n : ℕ} {ts : List Thread} {o : Offer} → ListOffer n ts o → O
 list-offer (ListOffer.among {o = o} s d) b = let c = every-split s b in offer-framed o (c .0) (c .2) (thread-offer d (c .1))
 
 -- An offer of a copy, from the name on at which it was opened.
-copy-offer : (P : Process) {n : ℕ} {ρ : Bound} {o : Offer} → ListOffer (names P ρ n) (settle P ρ n) o → BoundBelow n ρ
+copy-offer : (P : Process) {n : ℕ} {ρ : Bound} {o : Offer} → ListOffer (names P ρ n) (settle P ρ n) o → BoundStored n ρ
     → OfferBelow n o
 copy-offer P {o = o} d b = offer-opened o P (list-offer d) b
 
@@ -104,7 +104,7 @@ joined-below (join e) o i keeps = record {
 
 list-silent : {n : ℕ} {ts : List Thread} {w : Meeting} → ListSilent n ts w → One n ts → MeetingBelow n w
 list-silent d =
-    elim d as (λ n t w d. ThreadBelow n t → MeetingBelow n w) (λ n ts w d. One n ts → MeetingBelow n w) [
+    elim d as (λ n t w d. ThreadStored n t → MeetingBelow n w) (λ n ts w d. One n ts → MeetingBelow n w) [
       | within {P = P} {w = w} (d → h) ↦ λ b. meeting-framed w none (b also none) (meeting-opened w P h b)
       | copies {P = P} {o = o} d e j ↦ λ b.
           let w = copy-offer P d b in
@@ -123,7 +123,7 @@ list-silent d =
           (λ k le x y h g. every-joined (every-joined (threads-later le (c .0)) h) g)
     ]
 
-step-made : {S T : State} {a : Label} → Step S a T → NamesMade S → NamesMade T
+step-made : {S T : State} {a : Label} → Step S a T → Invariant S → Invariant T
 step-made (Step.output {M = M} {P = P} d e) made =
     let o = list-offer d (made .in-threads) in
     let s = settled-below P (o .bounds) in
@@ -145,9 +145,9 @@ step-made (Step.silent {w = meeting ρ M P σ Q f k} d) made =
       in-aliases = bound-later (omega arith) (made .in-aliases);
     }
 
-pub namesAreMade : NamesAreMade
+pub invariantHolds : InvariantHolds
 unfolding start
-namesAreMade = (
+invariantHolds = (
   λ P. record { in-threads = settled-below P none .1; in-aliases = none },
   λ S T a d made. step-made d made,
 )
