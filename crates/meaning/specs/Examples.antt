@@ -17,7 +17,7 @@ use Rattle.meaning.specs.Verdict.{verdict}
 use Rattle.meaning.specs.Places.{Every}
 
 pub data Entry : Type 0 where
-  -- Three slices, the work buffer's length and the budget are answered by these four numbers.
+  -- On these slices, with a work buffer of this length and this budget, the verdict is these four numbers.
   answered : (first second formula : List ℕ) (work budget : ℕ) (result slice place count : ℕ) → Entry
   -- A number stands at the start of these bytes and ends there.
   numbered : List ℕ → (value end : ℕ) → Entry

@@ -18,7 +18,7 @@ pub record Judgement : Type 0 where
   pub count : ℕ
   pub limited : Bool
 
--- A visit that meets a limit counts 1 and goes no further; its truth is not used.
+-- A visit that meets a limit ends there, with a count of 1; its truth is not used.
 abbrev pub visit : Bool → (Unit {0} → Judgement) → Judgement
 visit true further = record { truth = false; count = 1; limited = true }
 visit false further = further tt
@@ -35,7 +35,7 @@ someOf (j ∷ js) =
     let k = someOf js in
     record { truth = j .truth || k .truth; count = j .count + k .count; limited = j .limited || k .limited }
 
--- Each formula node is judged at a state, with no short cuts.
+-- Nothing is skipped: every part is judged, and at every state that a step leads to.
 unfoldable pub judge : Formula → Arrival → Judgement
 judge (Formula.equal M N) A =
     visit (meets (at (Formula.equal M N) A))

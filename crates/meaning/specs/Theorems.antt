@@ -61,7 +61,7 @@ abbrev pub FormulasRefused : Type 0
 FormulasRefused =
     (s : List ℕ) (number place : ℕ) → (readFormula s ≡ refused number place) ↔ Refusal s (formula 48 16 0) number place
 
--- A model or a formula is well-formed exactly when its slice breaks none of the rules.
+-- The slices that no rule refuses are exactly the well-formed ones.
 abbrev pub ModelsFormed : Type 0
 ModelsFormed =
     (s : List ℕ) → Bytes s → ((P : Process) × IsModel s P) ↔ ((number place : ℕ) → ¬ (Refusal s (process 64 0) number place))
@@ -70,7 +70,7 @@ abbrev pub FormulasFormed : Type 0
 FormulasFormed =
     (s : List ℕ) → Bytes s → ((F : Formula) × IsFormula s F) ↔ ((number place : ℕ) → ¬ (Refusal s (formula 48 16 0) number place))
 
--- Demand 2, steps: the enumeration lists each derivation once and nothing else. Whatever property P of states is asked for,
+-- Demand 2, steps: what the rules derive and what the list has are the same, one for one. Whatever property P of states is asked for,
 -- the derivations that lead to a state with P and the places of the list with P correspond one to one.
 abbrev pub StepsEnumerated : Type 1
 StepsEnumerated =

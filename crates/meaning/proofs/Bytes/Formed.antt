@@ -1,5 +1,4 @@
--- A model or a formula is well-formed exactly when its slice breaks none of the rules ("Turned back for the input", last
--- paragraph). Assumes nothing.
+-- Slices that no rule refuses are the well-formed ones ("Turned back for the input", last paragraph). Assumes nothing.
 use mathlib.Core.Path.{_≡_, refl}
 use mathlib.Core.Logic.{_↔_}
 use Prim.Native.Nat.{ℕ}

@@ -7,7 +7,7 @@ use Rattle.meaning.specs.Messages.Term.{sideKind, binaryKind, Term, leaf
 use Rattle.meaning.specs.Bytes.Process.{Prefix, Process, nil, new, act, if, let-in, par, repl}
 use Rattle.meaning.specs.Bytes.Formula.{Label, Formula}
 
--- Groups of seven bits, the lowest first; the top bit is set on every byte but the last.
+-- Seven bits to a byte, low bits first; 128 is added where another byte follows.
 unfoldable pub encodeNumber : ℕ → List ℕ
 encodeNumber n = elim (ltb n 128) [ true ↦ n ∷ [] | false ↦ (128 + n % 128) ∷ (n / 128) ∷ [] ]
 

@@ -19,7 +19,7 @@ abbrev pub provided : {A : Type 0} → Bool → (number place : ℕ) → A → (
 provided true number place a end = found a end
 provided false number place a end = refused number place
 
--- A number has one or two bytes, and a second byte is 1 to 127.
+-- The second byte of a number that has one: 0 and anything from 128 on is not in the one form.
 unfoldable pub secondByte : (size at b : ℕ) → List ℕ → Read ℕ
 secondByte size at b [] = refused 2 size
 secondByte size at b (c ∷ rest) = provided (leb 1 c && leb c 127) 3 at (b - 128 + 128 * c) (at + 2)

@@ -6,7 +6,7 @@ pub data Prefix : Type 0 where
   output : (C M : Term) → Prefix
   input : (C : Term) → Prefix
 
--- New, input and let bind one variable in what follows.
+-- `new`, `let-in` and an input prefix each add a variable for the process after them.
 pub data Process : Type 0 where
   nil : Process
   new : Process → Process

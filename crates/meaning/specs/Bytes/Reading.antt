@@ -47,7 +47,7 @@ term (suc left) scope s at =
 abbrev pub field : (scope : ℕ) → List ℕ → ℕ → Read Term
 field scope s at = term 8 scope s at
 
--- Whether this kind may stand with so many variables in scope: a thirteenth is refused at its binder's kind.
+-- Whether this kind may stand with so many variables in scope: with 12 there is no room for a binder.
 abbrev pub roomFor : (scope : ℕ) → ProcessKind → Bool
 roomFor scope ProcessKind.nil = true
 roomFor scope ProcessKind.new = ltb scope 12

@@ -1,5 +1,5 @@
--- The limits of states and recipes ("Judging and its count"). They belong to judging alone: truth, steps and bisimulation
--- have no limits in them. Assumes nothing.
+-- The limits of states and recipes ("Judging and its count"). Nothing but judging knows them: no
+-- definition of steps, truth or bisimulation uses this file. Assumes nothing.
 use Prim.Native.Nat.{ℕ, suc, _+_}
 use mathlib.Core.Bool.{Bool, true, false, _||_}
 use mathlib.Core.List.{List, [], _∷_}
@@ -13,7 +13,7 @@ use Rattle.meaning.specs.Steps.State.{Bound, _▸_, written, worked, Thr
 use Rattle.meaning.specs.Steps.Copies.{resultOf}
 use Rattle.meaning.specs.Logic.Truth.{anyOf}
 
--- Working a term: whether a normal form over 255 nodes arises, a part's included.
+-- Working a term: whether it or a part of it has a normal form of more than 255 nodes.
 abbrev pub overWhole : Bound → Term → Bool
 overWhole ρ t = ltb 255 (nodes (worked ρ t))
 
@@ -22,7 +22,7 @@ over ρ (leaf l) = overWhole ρ (leaf l)
 over ρ (proj s t) = over ρ t || overWhole ρ (proj s t)
 over ρ (binary b t u) = over ρ t || over ρ u || overWhole ρ (binary b t u)
 
--- Settling a process: both sides of a decided `if` are worked, the branch not taken is not.
+-- Settling a process: an `if` works the two terms that it compares and then one branch.
 unfoldable pub overSettling : Process → Bound → ℕ → Bool
 overSettling Process.nil ρ n = false
 overSettling (Process.new P) ρ n = overSettling P (ρ ▸ leaf (private n)) (suc n)

@@ -16,7 +16,7 @@ use Rattle.meaning.specs.Steps.Step.{afterSilent}
 use Rattle.meaning.specs.Steps.Enumeration.{offers, silents, sent, taken}
 use Rattle.meaning.specs.Judging.Limits.{overSettling, overState, overRecipes}
 
--- A state as it is reached, with whether a normal form over 255 nodes arose while it was settled.
+-- A state as it is reached, and whether settling it met the limit of 255 nodes.
 pub record Arrival : Type 0 where
   pub state : State
   pub large : Bool
@@ -56,8 +56,8 @@ at F A = record { formula = F; arrival = A }
 unfoldable pub meets : Visit → Bool
 meets v = v .arrival .large || overState (v .arrival .state) || overRecipes (v .arrival .state .aliases) (v .formula)
 
--- One visit, plus those of both sides of "and", of the body of "not", or of F at every step so labelled. A visit that meets
--- a limit goes no further.
+-- The visits that judging makes: this one first, then, unless it meets a limit, those of the parts, and for a step formula
+-- those at each state that its steps lead to.
 unfoldable pub visits : Formula → Arrival → List Visit
 visits (Formula.equal M N) A = at (Formula.equal M N) A ∷ []
 visits (Formula.not F) A = at (Formula.not F) A ∷ (elim (meets (at (Formula.not F) A)) [ true ↦ [] | false ↦ visits F A ])
@@ -67,7 +67,7 @@ visits (Formula.step a F) A =
     at (Formula.step a F) A
     ∷ (elim (meets (at (Formula.step a F) A)) [ true ↦ [] | false ↦ flatMap (visits F) (arrivals (A .state) a) ])
 
--- The count is the sum over both models; judging meets a limit when one of its visits, in either model, does.
+-- What is counted, and what must be free of limits, is the visits of both models together.
 abbrev pub visitsBoth : Process → Process → Formula → List Visit
 visitsBoth P Q F = visits F (startArrival P) ++ visits F (startArrival Q)
 

@@ -14,19 +14,19 @@ use Rattle.meaning.specs.Steps.Step.{Step}
 abbrev pub outputs : State → ℕ
 outputs S = length (S .aliases)
 
--- Any two recipes over the aliases give equal messages in both or in neither.
+-- No two recipes over the aliases tell the states apart by being equal in one and not in the other.
 abbrev pub StaticallyEquivalent : State → State → Type 0
 StaticallyEquivalent S T =
     (M N : Recipe) → TermScoped (outputs S) M → TermScoped (outputs S) N
     → Equal (written (S .aliases) M) (written (S .aliases) N) ↔ Equal (written (T .aliases) M) (written (T .aliases) N)
 
--- Each step of S is matched by a step of T with the same label as written, to related states.
+-- Whatever S does, T can do under the very same label, so that R holds again afterwards.
 abbrev pub Matched {ℓ} : (State → State → Type ℓ) → State → State → Type ℓ
 Matched R S T =
     (a : Label) → LabelScoped (outputs S) a → (S′ : State) → Step S a S′
     → ∥ ((T′ : State) × Step T a T′ × R S′ T′) ∥₁
 
--- Any relation on states that relates two states only if all this holds.
+-- R may be any relation on states for which all this holds of every two states that it relates.
 pub record Bisimulation {ℓ} (R : State → State → Type ℓ) : Type ℓ where
   pub as-many : (S T : State) → R S T → outputs S ≡ outputs T
   pub static : (S T : State) → R S T → StaticallyEquivalent S T

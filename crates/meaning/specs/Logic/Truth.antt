@@ -17,7 +17,7 @@ True (Formula.not F) S = ¬ (True F S)
 True (Formula.and F G) S = True F S × True G S
 True (Formula.step a F) S = (T : State) × Step S a T × True F T
 
--- A formula is true of a model when it is true at the model's start state, and false of it otherwise.
+-- Truth of a model is truth at its start state; falsity is its negation.
 abbrev pub TrueOf : Formula → Process → Type 0
 TrueOf F P = True F (start P)
 

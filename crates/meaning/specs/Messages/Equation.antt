@@ -13,7 +13,7 @@ pub data _⇝_ {L : Type 0} : Tree L → Tree L → Type 0 where
   projected : (s : Side) (m n : Tree L) → proj s (binary pair m n) ⇝ part s m n
   undone : (d : Direction) (m k : Tree L) → binary (cipher d) (binary (cipher (opposite d)) m k) k ⇝ m
 
--- Used either way, at any depth, any number of times.
+-- The congruence that they generate.
 pub data _≈_ {L : Type 0} : Tree L → Tree L → Type 0 where
   equation : {m n : Tree L} → m ⇝ n → m ≈ n
   reflexive : (m : Tree L) → m ≈ m

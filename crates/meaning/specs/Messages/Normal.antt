@@ -51,7 +51,7 @@ normal (leaf a) = leaf a
 normal (proj s m) = project s (normal m)
 normal (binary b m n) = build b (normal m) (normal n)
 
--- Size is the number of nodes of the normal form.
+-- The size of a message.
 abbrev pub size : Message → ℕ
 size m = nodes (normal m)
 

@@ -1,5 +1,4 @@
--- Recursion over threads along the copies of repl threads ("Steps": "a repl thread's rest on the list its copy gives").
--- Assumes nothing.
+-- Recursion over threads along the copies of repl threads ("Steps"). Assumes nothing.
 use Prim.Native.Nat.{ℕ, suc}
 use mathlib.Core.Bool.{true, false}
 use mathlib.Core.List.{List, [], _∷_, _++_, map}

@@ -48,7 +48,7 @@ offersOf t = resultOf ownOffer copyOffers t
 unfoldable pub offers : ℕ → List Thread → List Offer
 offers n ts = offersAmong n (paired offersOf ts)
 
--- An output and an input on equal channels; nothing for any other two offers.
+-- One meeting where the first offer can send to the second, none otherwise.
 unfoldable pub joined : (List Thread → List Thread → List Thread) → Offer → Offer → List Meeting
 joined arrange (offer ρ (output C M) P f m) (offer σ (input D) Q g k) =
     elim (equal (written ρ C) (written σ D)) [ true ↦ meeting ρ M P σ Q (λ x y. arrange (f x) (g y)) k ∷ [] | false ↦ [] ]
@@ -60,7 +60,7 @@ joined arrange (offer ρ (input C) P f m) (offer σ (output D N) Q g k) = []
 unfoldable pub silentAt : ℕ → Cut (Thread × (ℕ → List Meeting)) → List Meeting
 silentAt n (cut l t r) = map (framed (λ x. threadsOf l ++ x ++ threadsOf r)) (t .1 n)
 
--- Then each output offer of a thread with each input offer of another.
+-- Then the pairs: the sender's thread, its offers, and for each the takers left of it and right of it.
 unfoldable pub pairsAt : ℕ → Cut Thread → List Meeting
 pairsAt n (cut l t r) =
     flatMap (λ o. flatMap (joined (λ a b. b ++ a ++ r) o) (offers (opened o) l) ++ flatMap (joined (λ a b. l ++ a ++ b) o) (offers (opened o) r))
@@ -69,7 +69,7 @@ pairsAt n (cut l t r) =
 unfoldable pub silentAmong : ℕ → List (Thread × (ℕ → List Meeting)) → List Meeting
 silentAmong n ts = flatMap (silentAt n) (cuts ts) ++ flatMap (pairsAt n) (cuts (threadsOf ts))
 
--- Those of a repl thread: within one copy, then an output of one copy with an input of a second.
+-- Those of a repl thread: first inside a copy, then from one copy to another.
 abbrev pub noSilent : Bound → Prefix → Process → ℕ → List Meeting
 noSilent ρ p P n = []
 

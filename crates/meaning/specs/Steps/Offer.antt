@@ -21,14 +21,14 @@ pub data Split {A : Type 0} : List A → List A → A → List A → Type 0 wher
   there : {u t : A} {ts l r : List A} → Split ts l t r → Split (u ∷ ts) (u ∷ l) t r
 
 mutual
-  -- A thread acts by itself, and what follows is settled in its place. A repl thread offers what one fresh settled copy offers;
-  -- the rest of that copy then stands just before the repl thread, which stays.
+  -- A thread that acts offers itself, and the rest takes its place. A repl thread opens a copy and passes on the offers of its
+  -- list; whatever is left of the copy comes in front of the repl thread, which is not used up.
   pub data ThreadOffer : ℕ → Thread → Offer → Type 0 where
     own : {n : ℕ} {ρ : Bound} {p : Prefix} {P : Process} → ThreadOffer n (act ρ p P) (offer ρ p P (λ x. x) n)
     copy : {n : ℕ} {ρ : Bound} {P : Process} {o : Offer} → ListOffer (names P ρ n) (settle P ρ n) o
         → ThreadOffer n (repl ρ P) (placed (λ x. x ++ (repl ρ P ∷ [])) o)
 
-  -- The offers of a list rest on those of its threads.
+  -- A list passes on the offers of each of its threads.
   pub data ListOffer : ℕ → List Thread → Offer → Type 0 where
     among : {n : ℕ} {ts l r : List Thread} {t : Thread} {o : Offer} → Split ts l t r → ThreadOffer n t o
         → ListOffer n ts (placed (λ x. l ++ x ++ r) o)

@@ -16,7 +16,7 @@ pub data Meeting : Type 0 where
 abbrev pub framed : (List Thread → List Thread) → Meeting → Meeting
 framed g (meeting ρ M P σ Q f k) = meeting ρ M P σ Q (λ x y. g (f x y)) k
 
--- A silent step joins an output and an input on equal channels; their places are arranged in the list.
+-- The first offer sends, the second takes, and their channels are equal; `arrange` puts their places into one list.
 pub data Joins (arrange : List Thread → List Thread → List Thread) : Offer → Offer → Meeting → Type 0 where
   join : {ρ σ : Bound} {C M D : Term} {P Q : Process} {f g : List Thread → List Thread} {m k : ℕ}
       → Equal (written ρ C) (written σ D)
@@ -27,16 +27,16 @@ mutual
     -- Within one copy of a repl thread.
     within : {n : ℕ} {ρ : Bound} {P : Process} {w : Meeting} → ListSilent (names P ρ n) (settle P ρ n) w
         → ThreadSilent n (repl ρ P) (framed (λ x. x ++ (repl ρ P ∷ [])) w)
-    -- An output of one copy with an input of a second, the first being opened first.
+    -- Between two copies: the sender's is opened before the taker's.
     copies : {n : ℕ} {ρ : Bound} {P : Process} {o i : Offer} {w : Meeting}
         → ListOffer (names P ρ n) (settle P ρ n) o → ListOffer (names P ρ (opened o)) (settle P ρ (opened o)) i
         → Joins (λ a b. a ++ b ++ (repl ρ P ∷ [])) o i w → ThreadSilent n (repl ρ P) w
 
   pub data ListSilent : ℕ → List Thread → Meeting → Type 0 where
-    -- Thread by thread, the silent steps of a repl thread.
+    -- By one thread of the list, which is then a repl thread.
     among : {n : ℕ} {ts l r : List Thread} {t : Thread} {w : Meeting} → Split ts l t r → ThreadSilent n t w
         → ListSilent n ts (framed (λ x. l ++ x ++ r) w)
-    -- An output offer of one thread with an input offer of another, which stands left or right of it.
+    -- Between two threads of the list, the taker left or right of the sender.
     with-left : {n : ℕ} {ts l r : List Thread} {t : Thread} {o i : Offer} {w : Meeting}
         → Split ts l t r → ThreadOffer n t o → ListOffer (opened o) l i → Joins (λ a b. b ++ a ++ r) o i w → ListSilent n ts w
     with-right : {n : ℕ} {ts l r : List Thread} {t : Thread} {o i : Offer} {w : Meeting}

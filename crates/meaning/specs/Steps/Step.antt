@@ -9,7 +9,7 @@ use Rattle.meaning.specs.Steps.State.{Bound, _▸_, written, worked, Thr
 use Rattle.meaning.specs.Steps.Offer.{offer, ListOffer}
 use Rattle.meaning.specs.Steps.Silent.{Meeting, meeting, ListSilent}
 
--- What follows is settled in its place. Output appends the next alias.
+-- The rest is settled and put where the offer says. An output makes its message the newest alias.
 abbrev pub afterOutput : State → Bound → Term → Process → (List Thread → List Thread) → ℕ → State
 afterOutput S ρ M P f m =
     record { threads = f (settle P ρ m); aliases = S .aliases ▸ worked ρ M; next = names P ρ m }
@@ -19,14 +19,14 @@ afterInput S N ρ P f m =
     let σ = ρ ▸ worked (S .aliases) N in
     record { threads = f (settle P σ m); aliases = S .aliases; next = names P σ m }
 
--- In a silent step what follows the output is settled first.
+-- The rest of the sender takes its names before the rest of the taker.
 abbrev pub afterSilent : State → Meeting → State
 afterSilent S (meeting ρ M P σ Q f k) =
     let τ = σ ▸ worked ρ M in
     let j = names P ρ k in
     record { threads = f (settle P ρ k) (settle Q τ j); aliases = S .aliases; next = names Q τ j }
 
--- Channel and message of a label are recipes, taken at the state.
+-- A label's recipes are worked with the aliases of the state that the step leaves.
 pub data Step (S : State) : Label → State → Type 0 where
   output : {ρ : Bound} {C M : Term} {P : Process} {f : List Thread → List Thread} {m : ℕ} {R : Recipe}
       → ListOffer (S .next) (S .threads) (offer ρ (Prefix.output C M) P f m) → Equal (written ρ C) (written (S .aliases) R)

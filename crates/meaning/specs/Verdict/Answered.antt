@@ -13,7 +13,7 @@ use Rattle.meaning.specs.Logic.Truth.{TrueOf}
 use Rattle.meaning.specs.Judging.Visits.{meets, visitsBoth, countOf, MeetsNoLimit}
 use Rattle.meaning.specs.Verdict.{Answer, answer, workBytes, Input, good, bad}
 
--- Both models and the formula are well-formed, and the work buffer is long enough.
+-- Nothing turns the input back, and these are its trees.
 pub record Formed (s₁ s₂ s₃ : List ℕ) (work : ℕ) (P Q : Process) (F : Formula) : Type 0 where
   pub long-enough : workBytes ≤ work
   pub first : IsModel s₁ P

@@ -28,7 +28,7 @@ silents-among n ts =
     ap₂ (λ x us. x ++ flatMap (pairsAt n) (cuts us)) (among-paired framed silentOf n (silentAt n) (elim [ cut l t r ↦ refl ]) ts)
     (threads-paired silentOf ts)
 
--- An output and an input on equal channels, and no other two offers.
+-- Two offers are joined where the rule joins them, and nowhere else.
 joined-listed : (arrange : List Thread → List Thread → List Thread) (o i : Offer)
     → Lists (Derived (Joins arrange o i)) (joined arrange o i)
 unfolding joined
