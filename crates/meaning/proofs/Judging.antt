@@ -15,7 +15,7 @@ use Rattle.meaning.specs.Steps.Enumeration.{offers, silents, sent, taken
 use Rattle.meaning.specs.Logic.Truth.{anyOf, holds}
 use Rattle.meaning.specs.Judging.Visits.{Arrival, arrived, sentArrivals, takenArrivals, metArrival, arrivals, at, meets}
 use Rattle.meaning.specs.Judging.{Judgement, visit, someOf, judge}
-use Rattle.meaning.specs.Theorems.{JudgedTruth}
+use Rattle.meaning.specs.Theorems.{ArrivalsAreSteps, JudgedTruth}
 use Rattle.meaning.proofs.Test.{neither, none-passes}
 use Rattle.meaning.proofs.Logic.Truth.{truthEvaluated}
 use Rattle.meaning.proofs.Judging.Visits.{visitsCounted}
@@ -43,11 +43,11 @@ met-states : (S : State) (ws : List Meeting) → states (map (metArrival S) ws) 
 met-states S [] = refl
 met-states S (meeting ρ M P σ Q f k ∷ ws) = ap (λ r. afterSilent S (meeting ρ M P σ Q f k) ∷ r) (met-states S ws)
 
-pub arrivals-steps : (S : State) (a : Label) → states (arrivals S a) ≡ steps S a
+pub arrivalsAreSteps : ArrivalsAreSteps
 unfolding arrivals steps
-arrivals-steps S (Label.output R) = states-flatMap (sentArrivals S R) (sent S R) (sent-states S R) (offers (S .next) (S .threads))
-arrivals-steps S (Label.input R N) = states-flatMap (takenArrivals S R N) (taken S R N) (taken-states S R N) (offers (S .next) (S .threads))
-arrivals-steps S Label.silent = met-states S (silents (S .next) (S .threads))
+arrivalsAreSteps S (Label.output R) = states-flatMap (sentArrivals S R) (sent S R) (sent-states S R) (offers (S .next) (S .threads))
+arrivalsAreSteps S (Label.input R N) = states-flatMap (takenArrivals S R N) (taken S R N) (taken-states S R N) (offers (S .next) (S .threads))
+arrivalsAreSteps S Label.silent = met-states S (silents (S .next) (S .threads))
 
 -- A visit that met no limit went further.
 went-on : (b : Bool) (further : Unit {0} → Judgement) → visit b further .limited ≡ false → visit b further ≡ further tt
@@ -78,7 +78,7 @@ judged-holds (step a F) A h =
     let e = went-on (meets (at (step a F) A)) _ h in
     ap (λ j. j .truth) e
     ∙ some-holds F (judged-holds F) (arrivals (A .state) a) (sym (ap (λ j. j .limited) e) ∙ h)
-    ∙ ap (anyOf (holds F)) (arrivals-steps (A .state) a)
+    ∙ ap (anyOf (holds F)) (arrivalsAreSteps (A .state) a)
 
 pub judgedTruth : JudgedTruth
 judgedTruth F A unlimited =

@@ -18,7 +18,7 @@ pub record Judgement : Type 0 where
   pub count : ℕ
   pub limited : Bool
 
--- A visit that meets a limit ends there, with a count of 1; its truth is not used.
+-- A visit that meets a limit ends there, with a count of 1. It is given the truth false, on which no answer rests.
 abbrev pub visit : Bool → (Unit {0} → Judgement) → Judgement
 visit true further = record { truth = false; count = 1; limited = true }
 visit false further = further tt

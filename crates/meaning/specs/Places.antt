@@ -13,6 +13,7 @@ pub data Every {A : Type 0} (P : A → Type 0) : List A → Type 0 where
   none : Every P []
   _also_ : {x : A} {xs : List A} → P x → Every P xs → Every P (x ∷ xs)
 
+-- A one-to-one correspondence of two types.
 pub record OneToOne (A B : Type 0) : Type 0 where
   pub to : A → B
   pub from : B → A

@@ -1,10 +1,10 @@
--- The theorems, each stated over the definitions and nothing else. Their proofs are in proofs/, under the same names in lower
--- case. Assumes nothing.
+-- The theorems, each stated over the definitions and nothing else. Their proofs are in proofs/, under the same names
+-- with a small first letter. Assumes nothing.
 use mathlib.Core.Path.{_≡_}
 use mathlib.Core.Logic.{_↔_, _⊎_}
 use mathlib.Core.Option.{some}
 use mathlib.Core.Bool.{false}
-use mathlib.Core.List.{List}
+use mathlib.Core.List.{List, map}
 use Prim.Native.Nat.{ℕ, _+_, _≤_, _<_}
 use lib.Dec.{T}
 use lib.ListN.{length, getElem?}
@@ -26,7 +26,7 @@ use Rattle.meaning.specs.Steps.Step.{Step}
 use Rattle.meaning.specs.Steps.Enumeration.{steps}
 use Rattle.meaning.specs.Logic.Truth.{True, TrueOf, anyOf, holds}
 use Rattle.meaning.specs.Logic.Bisimulation.{outputs, Bisimulation}
-use Rattle.meaning.specs.Judging.Visits.{Arrival, meets, visits, countOf, MeetsNoLimit}
+use Rattle.meaning.specs.Judging.Visits.{Arrival, arrivals, meets, visits, countOf, MeetsNoLimit}
 use Rattle.meaning.specs.Judging.{judge}
 use Rattle.meaning.specs.Verdict.{Answer, workBytes, verdict, workAfter}
 use Rattle.meaning.specs.Verdict.Answered.{Formed, Answered}
@@ -98,6 +98,10 @@ InvariantHolds =
 -- Whichever copy of a repl thread is opened, and however late, the same limits are met: `overOffers` may ask the first alone.
 abbrev pub CopiesAlike : Type 0
 CopiesAlike = (t : Thread) (n m : ℕ) → ThreadStored n t → n ≤ m → overOffers t m ≡ overOffers t n
+
+-- What is judged after a step are the states of the enumeration, each once and in its order.
+abbrev pub ArrivalsAreSteps : Type 0
+ArrivalsAreSteps = (S : State) (a : Label) → map (λ A. A .state) (arrivals S a) ≡ steps S a
 
 -- Judging counts the visits, and says whether one of them met a limit.
 abbrev pub VisitsCounted : Type 0

@@ -70,7 +70,7 @@ verdictOn (bad result slice place) budget = record { result = result; slice = sl
 unfoldable pub verdict : (first second formula : List ℕ) (work budget : ℕ) → Answer
 verdict first second formula work budget = verdictOn (input first second formula work) budget
 
--- The work bytes after, for the work bytes before: untouched where the input is turned back, else cleared.
+-- The work bytes after, for the work bytes before: untouched where the input is turned back, else with the first 65,536 cleared.
 unfoldable pub workOn : Input → List ℕ → List ℕ
 workOn (good P Q F) work = replicate workBytes 0 ++ drop workBytes work
 workOn (bad result slice place) work = work

@@ -2,7 +2,7 @@
 use mathlib.Core.List.{List, [], _∷_}
 use Rattle.meaning.specs.Messages.Term.{Side, fst, snd, enc, dec, Binary, pair, cipher, mac}
 
--- The kinds, in the order of their numbers.
+-- The kinds of each sort, and a list of them in the order of their numbers.
 pub data TermKind : Type 0 where
   name variable : TermKind
   proj : Side → TermKind

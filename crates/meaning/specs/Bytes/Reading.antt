@@ -22,7 +22,7 @@ unfoldable pub kind : {K : Type 0} → List K → (K → Bool) → List ℕ → 
 kind kinds allowed s at =
     andThen (number s at) (λ k end. andThen (listed (getElem? kinds k) at end) (λ c end. provided (allowed c) 7 at c end))
 
--- Never, for a node past the limit of its path.
+-- Never, for a node past the limit of its path: nothing is read after such a kind.
 abbrev pub never : {K : Type 0} → K → Bool
 never k = false
 

@@ -6,7 +6,7 @@ use mathlib.Core.List.{List, [], _∷_}
 use lib.Dec.{ltb}
 use lib.ListN.{length}
 use Rattle.meaning.specs.Messages.Term.{Term, leaf, proj, binary, private, nodes}
-use Rattle.meaning.specs.Messages.Normal.{equal}
+use Rattle.meaning.specs.Messages.Normal.{size, equal}
 use Rattle.meaning.specs.Bytes.Process.{Prefix, output, input, Process}
 use Rattle.meaning.specs.Bytes.Formula.{Label, Formula}
 use Rattle.meaning.specs.Steps.State.{Bound, _▸_, written, worked, Thread, act, repl, names, State}
@@ -15,7 +15,7 @@ use Rattle.meaning.specs.Logic.Truth.{anyOf}
 
 -- Working a term: whether it or a part of it has a normal form of more than 255 nodes.
 abbrev pub overWhole : Bound → Term → Bool
-overWhole ρ t = ltb 255 (nodes (worked ρ t))
+overWhole ρ t = ltb 255 (size (written ρ t))
 
 unfoldable pub over : Bound → Term → Bool
 over ρ (leaf l) = overWhole ρ (leaf l)

@@ -32,7 +32,7 @@ project s (binary pair m n) = part s m n
 project s (binary (cipher d) m n) = proj s (binary (cipher d) m n)
 project s (binary mac m n) = proj s (binary mac m n)
 
--- Whether the cipher d over this node with key l, under the key k, is undone.
+-- Whether the cipher d under the key k undoes a node of kind b that has the key l.
 abbrev pub undoes : Direction → Binary → Message → Message → Bool
 undoes d b l k = eqb (binaryKind b) (binaryKind (cipher (opposite d))) && same l k
 

@@ -52,6 +52,7 @@ settle (Process.let-in M P) ρ n = settle P (ρ ▸ worked ρ M) n
 settle (Process.par P Q) ρ n = settle P ρ n ++ settle Q ρ (names P ρ n)
 settle (Process.repl P) ρ n = Thread.repl ρ P ∷ []
 
+-- Threads, the messages of the aliases, and the next private name, which is also how many have been made.
 pub record State : Type 0 where
   pub threads : List Thread
   pub aliases : Bound
