@@ -44,7 +44,7 @@ limits =
     ∷ judgedOn (large (inp goesOver)) (onInput c valid) 11 3
     ∷ judgedOn (par thenOver takes) (onSilent valid) 11 3
     ∷ judgedOn (par (large (inp goesOver)) sends) (onSilent valid) 11 3
-    -- In recipes: either side of equal, channel and message of a label.
+    -- In recipes: either side of equal, and each recipe of a label.
     ∷ judgedOn (large (out (x 6) nil)) (onOutput (Formula.equal (twice (x 0)) c)) 11 3
     ∷ judgedOn (large (out (x 6) nil)) (onOutput (Formula.equal c (twice (x 0)))) 11 3
     ∷ judgedOn (large (out (x 6) nil)) (onOutput (Formula.step (Label.output (twice (x 0))) valid)) 11 3
