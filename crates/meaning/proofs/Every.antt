@@ -5,8 +5,8 @@ use lib.ListN.{getD}
 use Rattle.meaning.specs.Places.{Every, none, _also_}
 use Rattle.meaning.specs.Steps.Offer.{Split, here, there}
 
-module _ {A : Type 0} {P : A → Type 0} where
-  pub every-map : {Q : A → Type 0} → ((x : A) → P x → Q x) → {xs : List A} → Every P xs → Every Q xs
+module _ {ℓ} {A : Type 0} {P : A → Type ℓ} where
+  pub every-map : {Q : A → Type ℓ} → ((x : A) → P x → Q x) → {xs : List A} → Every P xs → Every Q xs
   every-map f none = none
   every-map f (p also ps) = f _ p also every-map f ps
 

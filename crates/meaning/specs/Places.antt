@@ -9,7 +9,7 @@ pub data Some {A : Type 0} (P : A → Type 0) : List A → Type 0 where
 
 -- P holds at every place of the list.
 infixr 5 _also_
-pub data Every {A : Type 0} (P : A → Type 0) : List A → Type 0 where
+pub data Every {ℓ} {A : Type 0} (P : A → Type ℓ) : List A → Type ℓ where
   none : Every P []
   _also_ : {x : A} {xs : List A} → P x → Every P xs → Every P (x ∷ xs)
 
