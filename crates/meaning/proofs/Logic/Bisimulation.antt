@@ -2,15 +2,13 @@
 -- bisimulation that relates them ("Steps", last paragraph). Assumes nothing.
 use mathlib.Core.Path.{_≡_, refl, ap}
 use mathlib.Core.Logic.{Iff·rfl, ∥∥₁-elim}
-use mathlib.Core.List.{[], _∷_}
 use Prim.Native.Nat.{_+_}
 use native.Mathlib.Omega.{arith}
 use lib.Dec.{T-prop}
-use lib.ListN.{length, length-append}
+use lib.ListN.{length-append}
 use Rattle.meaning.specs.Bytes.Formula.{Label, Formula, equal, not, and, step}
 use Rattle.meaning.specs.Bytes.Scope.{bindsLabel, LabelScoped, FormulaScoped}
-use Rattle.meaning.specs.Messages.Term.{Message}
-use Rattle.meaning.specs.Steps.State.{Bound, _▸_, worked, State}
+use Rattle.meaning.specs.Steps.State.{State}
 use Rattle.meaning.specs.Steps.Silent.{meeting}
 use Rattle.meaning.specs.Steps.Step.{Step, output, input, silent}
 use Rattle.meaning.specs.Logic.Truth.{True, holds}
@@ -19,11 +17,8 @@ use Rattle.meaning.specs.Theorems.{RelatedAgree, EqualityBisimulates}
 use Rattle.meaning.proofs.Logic.Truth.{truthEvaluated}
 
 -- A step adds the aliases that its label binds.
-snoc-length : (ρ : Bound) (m : Message) → length (ρ ▸ m) ≡ 1 + length ρ
-snoc-length ρ m = omega (arith, length-append ρ (m ∷ []))
-
 step-outputs : {S U : State} {a : Label} → Step S a U → outputs U ≡ bindsLabel a + outputs S
-step-outputs {S} (output {ρ = ρ} {M = M} d e) = snoc-length (S .aliases) (worked ρ M)
+step-outputs (output d e) = simp length-append (omega arith)
 step-outputs (input d e) = omega arith
 step-outputs (silent {w = meeting ρ M P σ Q f k} d) = omega arith
 
