@@ -3,6 +3,7 @@
 pub mod Process
 pub mod Formula
 pub mod Encoding
+pub mod Standing
 pub mod Scope
 pub mod Nesting
 pub mod WellFormed

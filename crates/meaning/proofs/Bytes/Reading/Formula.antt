@@ -1,5 +1,5 @@
 -- Formulas ("Bytes"): what is read stands there, in scope and within the nesting limits (sound), and all that does so is read
--- (complete). Assumes fails tt.
+-- (complete). Assumes nothing.
 use mathlib.Core.Path.{_≡_, refl}
 use mathlib.Core.List.{List, [], _∷_}
 use Prim.Native.Nat.{ℕ, zero, suc, _+_, _-_, _≤_, _<_}
@@ -15,7 +15,8 @@ use Rattle.meaning.specs.Bytes.Number.{found, andThen}
 use Rattle.meaning.specs.Bytes.Kind.{FormulaKind}
 use Rattle.meaning.specs.Bytes.Reading.{never, stepsLeft, formulaFields, formula}
 use Rattle.meaning.specs.Bytes.WellFormed.{Bytes}
-use Rattle.meaning.proofs.Bytes.Reading.Place.{Stands, _⨾_, parts}
+use Rattle.meaning.specs.Bytes.Standing.{Stands}
+use Rattle.meaning.proofs.Bytes.Reading.Place.{_⨾_, parts}
 use Rattle.meaning.proofs.Bytes.Reader.{Only, holds, fails, and-then}
 use Rattle.meaning.proofs.Bytes.Reading.Kind.{formulaCode, formulaTable, kind-sound, kind-complete}
 use Rattle.meaning.proofs.Bytes.Reading.Term.{term-sound, term-complete}

@@ -1,5 +1,5 @@
 -- Kinds ("Bytes"), for any list of them: what is read stands there (sound), and what stands there is read (complete).
--- Assumes fails tt.
+-- Assumes nothing.
 use mathlib.Core.Path.{_≡_, refl}
 use mathlib.Core.Bool.{Bool}
 use mathlib.Core.List.{List, [], _∷_, map}
@@ -14,7 +14,7 @@ use Rattle.meaning.specs.Bytes.Number.{found, andThen}
 use Rattle.meaning.specs.Bytes.Kind.{TermKind, termKinds, ProcessKind, processKinds, FormulaKind, formulaKinds}
 use Rattle.meaning.specs.Bytes.Reading.{kind, listed}
 use Rattle.meaning.specs.Bytes.WellFormed.{Bytes}
-use Rattle.meaning.proofs.Bytes.Reading.Place.{Stands}
+use Rattle.meaning.specs.Bytes.Standing.{Stands}
 use Rattle.meaning.proofs.Bytes.Reader.{Only, holds, fails, and-then, by-provided, provided-found}
 use Rattle.meaning.proofs.Bytes.Reading.Number.{encode-short, number-sound, number-complete}
 

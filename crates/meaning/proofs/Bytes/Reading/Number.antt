@@ -1,5 +1,5 @@
 -- Numbers ("Bytes", first paragraph): what is read stands there (sound), and what stands there is read (complete).
--- Assumes fails tt.
+-- Assumes nothing.
 use mathlib.Core.Path.{_≡_, refl, ap, _∙_}
 use mathlib.Core.Bool.{_&&_}
 use mathlib.Core.List.{List, [], _∷_, _++_}
@@ -11,7 +11,8 @@ use mir.Facts.{and-yes, yes-and}
 use Rattle.meaning.specs.Bytes.Encoding.{encodeNumber}
 use Rattle.meaning.specs.Bytes.Number.{found, firstByte, secondByte, number}
 use Rattle.meaning.specs.Bytes.WellFormed.{Bytes}
-use Rattle.meaning.proofs.Bytes.Reading.Place.{Stands, stands}
+use Rattle.meaning.specs.Bytes.Standing.{Stands}
+use Rattle.meaning.proofs.Bytes.Reading.Place.{stands}
 use Rattle.meaning.proofs.Bytes.Reader.{Only, holds, fails, by-provided, provided-found, by-test, below, above}
 
 -- Numbers of one byte and of two.

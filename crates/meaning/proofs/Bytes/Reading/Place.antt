@@ -1,17 +1,13 @@
--- Bytes that stand at a place of a slice ("Bytes"). Assumes fails tt.
+-- Laws of bytes that stand at a place of a slice ("Bytes"). Assumes nothing.
 use mathlib.Core.Path.{_≡_, refl, sym, _∙_}
 use mathlib.Core.List.{List, [], _∷_, _++_, foldl, append-assoc, append-nil}
 use Prim.Native.Nat.{ℕ, _+_, _≤_}
 use native.Mathlib.Omega.{arith}
 use lib.ListN.{length, drop, length-append, drop-of-length-le}
 use lib.Seq.{drop-drop, drop-append-seam, drop-length}
+use Rattle.meaning.specs.Bytes.Standing.{Stands}
 
 infixl 65 _⨾_
--- The bytes xs stand in s from the position at to the position end.
-pub record Stands (s : List ℕ) (at : ℕ) (xs : List ℕ) (end : ℕ) : Type 0 where
-  pub bytes : drop at s ≡ xs ++ drop end s
-  pub size : end ≡ at + length xs
-
 -- What comes after bytes with which the rest of a slice begins.
 after : (s : List ℕ) (at : ℕ) (xs ys : List ℕ) → drop at s ≡ xs ++ ys → drop (at + length xs) s ≡ ys
 after s at xs ys e = rw (← drop-drop (length xs) at s, e, drop-append-seam)

@@ -1,5 +1,5 @@
 -- Terms ("Bytes"): what is read stands there, in scope and within the nesting limit (sound), and all that does so is read
--- (complete). Assumes fails tt.
+-- (complete). Assumes nothing.
 use mathlib.Core.Path.{_≡_, refl}
 use mathlib.Core.List.{List, [], _∷_}
 use mathlib.Core.Option.{some}
@@ -16,7 +16,8 @@ use Rattle.meaning.specs.Bytes.Number.{found, andThen}
 use Rattle.meaning.specs.Bytes.Kind.{TermKind, termKinds}
 use Rattle.meaning.specs.Bytes.Reading.{always, never, termFields, term}
 use Rattle.meaning.specs.Bytes.WellFormed.{Bytes}
-use Rattle.meaning.proofs.Bytes.Reading.Place.{Stands, _⨾_, parts}
+use Rattle.meaning.specs.Bytes.Standing.{Stands}
+use Rattle.meaning.proofs.Bytes.Reading.Place.{_⨾_, parts}
 use Rattle.meaning.proofs.Bytes.Reader.{Only, holds, fails, and-then, by-provided, provided-found}
 use Rattle.meaning.proofs.Bytes.Reading.Number.{number-sound, number-complete}
 use Rattle.meaning.proofs.Bytes.Reading.Kind.{termCode, termTable, kind-sound, kind-complete}
