@@ -20,7 +20,7 @@ use Rattle.meaning.specs.Logic.Truth.{TrueOf, anyOf}
 use Rattle.meaning.specs.Judging.Visits.{startArrival, visits, meets, visitsBoth, countOf, MeetsNoLimit}
 use Rattle.meaning.specs.Judging.{judgeModel}
 use Rattle.meaning.specs.Verdict.{Answer, Input, good, bad, ranked, judged, verdictOn, verdict}
-use Rattle.meaning.specs.Verdict.Answered.{Sorted, formed, Ranked, over-budget, limit-met, false-of-first, true-of-both, accepted, Answered, turned-back}
+use Rattle.meaning.specs.Verdict.Answered.{Sorted, formed, Ranked, over-budget, limit-met, false-of-first, true-of-both, accepted, Answered, input-refused}
 use Rattle.meaning.specs.Theorems.{VerdictExact, AcceptedExcludes, Acceptable, AcceptedExactly}
 use Rattle.meaning.proofs.Test.{is-false, some-passes, passes-some, none-passes, passes-none, any-append, some-map}
 use Rattle.meaning.proofs.Every.{every-parts}
@@ -28,7 +28,7 @@ use Rattle.meaning.proofs.Bytes.Reading.{modelsRead}
 use Rattle.meaning.proofs.Logic.Bisimulation.{excluded}
 use Rattle.meaning.proofs.Judging.Visits.{visitsCounted}
 use Rattle.meaning.proofs.Judging.{judgedTruth}
-use Rattle.meaning.proofs.Verdict.Sorting.{sorted, sorted-once, turned-back-by}
+use Rattle.meaning.proofs.Verdict.Sorting.{sorted, sorted-once, input-refused-by}
 
 -- Two models and a formula.
 module _ (P Q : Process) (F : Formula) (budget : ℕ) where
@@ -100,17 +100,17 @@ module _ {s₁ s₂ s₃ : List ℕ} {work : ℕ} (budget : ℕ) where
   answered : {i : Input} → Sorted s₁ s₂ s₃ work i → Answered s₁ s₂ s₃ work budget (verdictOn i budget)
   unfolding verdictOn
   answered {i = good P Q F} i = Answered.judged i (ranked-so P Q F budget)
-  answered {i = bad n slice place} i = turned-back i
+  answered {i = bad n slice place} i = input-refused i
 
   answered-once : {a : Answer} → Answered s₁ s₂ s₃ work budget a → verdict s₁ s₂ s₃ work budget ≡ a
   unfolding verdict verdictOn
-  answered-once (turned-back i) = ap (λ x. verdictOn x budget) (sorted-once s₁ s₂ s₃ work i)
+  answered-once (input-refused i) = ap (λ x. verdictOn x budget) (sorted-once s₁ s₂ s₃ work i)
   answered-once (Answered.judged {P = P} {Q = Q} {F = F} i r) =
       ap (λ x. verdictOn x budget) (sorted-once s₁ s₂ s₃ work i) ∙ ranked-once P Q F budget r
 
   -- The one answer with result 0.
   acceptable : {a : Answer} → Answered s₁ s₂ s₃ work budget a → a .result ≡ 0 → Acceptable s₁ s₂ s₃ work budget
-  acceptable (turned-back i) z = let n = turned-back-by i in absurd (omega arith)
+  acceptable (input-refused i) z = let n = input-refused-by i in absurd (omega arith)
   acceptable (Answered.judged i (over-budget h)) z = absurd (omega arith)
   acceptable (Answered.judged i (limit-met h m)) z = absurd (omega arith)
   acceptable (Answered.judged i (false-of-first h u n)) z = absurd (omega arith)

@@ -1,6 +1,5 @@
 -- The theorems on the answers of the readers ("Turned back for the input"). Their proofs are in proofs/Theorems.antt, under the
--- same
--- names with a small first letter. Assumes nothing.
+-- same names with a small first letter. Assumes nothing.
 use mathlib.Core.Path.{_≡_}
 use mathlib.Core.List.{List}
 use Prim.Native.Nat.{ℕ, _≤_}

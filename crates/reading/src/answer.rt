@@ -2,7 +2,7 @@
 ghost use mathlib.Core.Path.{_≡_};
 ghost use Rattle.reading.specs.Answer.{refusalNumber};
 
-// Why a slice is turned back: 1 to 8, in document 01's order.
+// Why a slice is refused: 1 to 8, in document 01's order.
 pub enum Refusal {
     TooLong,
     Truncated,

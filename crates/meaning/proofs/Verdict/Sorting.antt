@@ -83,8 +83,8 @@ refusal-number (out-of-scope d e h) = omega arith
 refusal-number (too-deep d e h) = omega arith
 refusal-number (left-over d h) = omega arith
 
-pub turned-back-by : {s₁ s₂ s₃ : List ℕ} {work n slice place : ℕ} → Sorted s₁ s₂ s₃ work (bad n slice place) → (1 ≤ n) × (n ≤ 9)
-turned-back-by (buffer-short h) = omega arith
-turned-back-by (first-refused long r) = refusal-number r
-turned-back-by (second-refused long m r) = refusal-number r
-turned-back-by (formula-refused long m k r) = refusal-number r
+pub input-refused-by : {s₁ s₂ s₃ : List ℕ} {work n slice place : ℕ} → Sorted s₁ s₂ s₃ work (bad n slice place) → (1 ≤ n) × (n ≤ 9)
+input-refused-by (buffer-short h) = omega arith
+input-refused-by (first-refused long r) = refusal-number r
+input-refused-by (second-refused long m r) = refusal-number r
+input-refused-by (formula-refused long m k r) = refusal-number r

@@ -14,7 +14,7 @@ use Rattle.meaning.specs.Judging.{judgeModel}
 use Rattle.meaning.specs.Verdict.{Input, bad, good, workBytes, ranked, judged, verdictOn, verdict, workOn, workAfter}
 use Rattle.meaning.specs.Theorems.{Cleared, WorkBytesAfter}
 use Rattle.meaning.specs.Verdict.Answered.{Sorted, formed}
-use Rattle.meaning.proofs.Verdict.Sorting.{sorted, turned-back-by}
+use Rattle.meaning.proofs.Verdict.Sorting.{sorted, input-refused-by}
 
 -- Of what is judged, the result is 0 or at least 10.
 ranked-result : (spent limited f s : Bool) (count budget : ℕ)
@@ -63,7 +63,7 @@ work-on : {s₁ s₂ s₃ : List ℕ} (budget : ℕ) (work : List ℕ) {i : Inpu
     × ((verdictOn i budget .result ≡ 0) ⊎ (10 ≤ verdictOn i budget .result) → Cleared work (workOn i work))
 unfolding verdictOn workOn
 work-on budget work {i = bad n slice place} i =
-    let b = turned-back-by i in
+    let b = input-refused-by i in
     (λ h. refl, elim [ inl h ↦ absurd (omega arith) | inr h ↦ absurd (omega arith) ])
 work-on budget work {i = good P Q F} (formed f) = (
   λ h. ⊎-elim (λ z. absurd (omega arith)) (λ z. absurd (omega arith)) (judged-result P Q F budget),

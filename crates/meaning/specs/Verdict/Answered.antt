@@ -42,7 +42,7 @@ pub data Ranked (P Q : Process) (F : Formula) (budget : ℕ) : Answer → Type 0
 
 -- The four numbers.
 pub data Answered (s₁ s₂ s₃ : List ℕ) (work budget : ℕ) : Answer → Type 0 where
-  turned-back : {n slice place : ℕ} → Sorted s₁ s₂ s₃ work (bad n slice place)
+  input-refused : {n slice place : ℕ} → Sorted s₁ s₂ s₃ work (bad n slice place)
       → Answered s₁ s₂ s₃ work budget (record { result = n; slice = slice; place = place; count = 0 })
   judged : {P Q : Process} {F : Formula} {a : Answer} → Sorted s₁ s₂ s₃ work (good P Q F) → Ranked P Q F budget a
       → Answered s₁ s₂ s₃ work budget a
