@@ -14,7 +14,7 @@ use Rattle.reading.specs.Layout.{fields, parts, layoutOf}
 use Rattle.reading.specs.Ends.{row, InRow, EndOf, RowEnd}
 
 -- The bytes of one row after another are those of one row.
-row-append : {A : Type 0} (encode : A → List ℕ) (xs ys : List A) → row encode (xs ++ ys) ≡ row encode xs ++ row encode ys
+pub row-append : {A : Type 0} (encode : A → List ℕ) (xs ys : List A) → row encode (xs ++ ys) ≡ row encode xs ++ row encode ys
 row-append encode [] ys = refl
 row-append encode (x ∷ xs) ys = rw (row-append encode xs ys, append-assoc)
 

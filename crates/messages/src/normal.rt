@@ -1,0 +1,78 @@
+// The equations, applied at the top of a message whose parts are in normal form ("Messages").
+use crate::node;
+use crate::run;
+use crate::run::Part;
+ghost use Prim.Native.Nat.{_≤_};
+ghost use mathlib.Core.Path.{_≡_};
+ghost use lib.ListN.{length};
+ghost use Rattle.messages.specs.Normal.{Projects, Undoes, Survives, Normalised};
+
+// fst or snd, by its kind: of a pair, the first part or the second; else the whole.
+fn projected(m: &[u8], kind: usize) -> Part
+    requires { ⌜ 4 ≤ length (now m) ⌝ }
+    ensures { λ r. ⌜ (r .0 ≤ r .1) × (r .1 ≤ length (now (m .entry))) ⌝ }
+    ensures { λ r. ⌜ Projects (now (m .entry)) kind (r .0) (r .1) ⌝ }
+{
+    if node::number(m, 2) != node::PAIR {
+        return Part(0, m.len());
+    }
+    let end = 4 + 2 * run::size(&m[4..]);
+    if kind == node::FST {
+        return Part(4, end);
+    }
+    Part(end, m.len())
+}
+
+// enc or dec, by its opposite: over that and under the same key, what that was applied to; else the whole.
+fn undone(m: &[u8], mid: usize, opposite: usize) -> Part
+    requires { ⌜ (4 ≤ mid) × (mid ≤ length (now m)) ⌝ }
+    ensures { λ r. ⌜ (r .0 ≤ r .1) × (r .1 ≤ length (now (m .entry))) ⌝ }
+    ensures { λ r. ⌜ Undoes (now (m .entry)) mid opposite (r .0) (r .1) ⌝ }
+{
+    if node::number(m, 2) != opposite {
+        return Part(0, m.len());
+    }
+    let end = 4 + 2 * run::size(&m[4..mid]);
+    if run::compare(&m[end..mid], &m[mid..]) {
+        return Part(4, end);
+    }
+    Part(0, m.len())
+}
+
+// The part of a message that its normal form is; the first of its own parts ends at mid.
+fn surviving(m: &[u8], mid: usize) -> Part
+    requires { ⌜ mid ≤ length (now m) ⌝ }
+    ensures { λ r. ⌜ (r .0 ≤ r .1) × (r .1 ≤ length (now (m .entry))) ⌝ }
+    ensures { λ r. ⌜ Survives (now (m .entry)) mid (r .0) (r .1) ⌝ }
+{
+    if mid < 4 {
+        return Part(0, m.len());
+    }
+    let kind = node::number(m, 0);
+    if node::parts(kind) == 1 {
+        return projected(m, kind);
+    }
+    if kind == node::ENC {
+        return undone(m, mid, node::DEC);
+    }
+    if kind == node::DEC {
+        return undone(m, mid, node::ENC);
+    }
+    Part(0, m.len())
+}
+
+// Puts the normal form of the message that the slice is at the front of the slice, and answers where it ends. The message's parts
+// are in normal form, and the first of them ends at mid.
+pub fn normalise(m: &mut [u8], mid: usize) -> usize
+    requires { ⌜ mid ≤ length (now m) ⌝ }
+    ensures { λ r. ⌜ r ≤ length (now (m .entry)) ⌝ }
+    ensures { λ _. ⌜ length (now (m .exit)) ≡ length (now (m .entry)) ⌝ }
+    ensures { λ r. ⌜ Normalised (now (m .entry)) mid r (now (m .exit)) ⌝ }
+{
+    let Part(from, end) = surviving(m, mid);
+    if from == 0 {
+        return end;
+    }
+    run::copy(m, from, 0, end - from);
+    end - from
+}
