@@ -1,13 +1,13 @@
--- The laws by which the functions meet their contracts. Assumes nothing.
+-- The laws by which the functions meet their contracts: messages as bytes, buffers, normal forms, then terms. Assumes nothing.
 pub mod Encoding
 pub mod Alike
+pub mod Walk
 pub mod Copy
 pub mod Buffer
-pub mod Walk
-pub mod Bound
-pub mod Field
 pub mod Normal
 pub mod Surviving
+pub mod Bound
+pub mod Field
 pub mod Leaf
 pub mod Reduce
 pub mod Term

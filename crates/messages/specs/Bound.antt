@@ -39,3 +39,7 @@ pub record BoundAt (m : List ℕ) (base : ℕ) (ρ : Bound) (start : ℕ) : Type
 -- Whatever messages are bound up to the position end, m is bound after them, up to the position last.
 pub record Binds (before : List ℕ) (end : ℕ) (m : Message) (last : ℕ) (after : List ℕ) : Type 0 where
   pub exact : (ρ : Bound) {base : ℕ} → Stands before base (encodeBound ρ) end → Stands after base (encodeBound (ρ ▸ m)) last
+
+-- So it is for the message that the slice x is.
+pub record BindsRun (x before : List ℕ) (end last : ℕ) (after : List ℕ) : Type 0 where
+  pub exact : (m : Message) → x ≡ encodeMessage m → Binds before end m last after

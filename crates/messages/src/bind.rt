@@ -1,5 +1,6 @@
-// Binding one message more, after those that are bound ("Steps": new binds a private name, let a message).
+// Binding one message more, after those that are bound ("Steps": new binds a private name, input and let a message).
 use crate::node;
+use crate::run;
 use crate::work;
 use crate::work::Worked;
 ghost use mathlib.Core.Path.{_≡_};
@@ -7,7 +8,7 @@ ghost use Prim.Native.Nat.{_+_, _≤_};
 ghost use lib.ListN.{length};
 ghost use Rattle.meaning.specs.Messages.Term.{leaf, private};
 ghost use Rattle.messages.specs.Buffer.{Within};
-ghost use Rattle.messages.specs.Bound.{Binds};
+ghost use Rattle.messages.specs.Bound.{Binds, BindsRun};
 ghost use Rattle.messages.specs.Work.{BindWorked, Reaches};
 
 // Binds the private name n after the bound messages that end at the position end; the answer is where they end then.
@@ -20,6 +21,18 @@ pub fn name(m: &mut [u8], end: usize, n: usize) -> usize
     node::write(m, end, 1);
     node::write(m, end + 2, 2 * n + 17);
     end + 4
+}
+
+// Binds the message that the slice x is, which may be one of another buffer, after the bound messages that end at the position end.
+pub fn message(x: &[u8], m: &mut [u8], end: usize) -> usize
+    requires { ⌜ (end + 2 + length (now x) ≤ length (now m)) × (length (now x) ≤ 510) ⌝ }
+    ensures { λ r. ⌜ r ≡ end + 2 + length (now (x .entry)) ⌝ }
+    ensures { λ _. ⌜ Within end (end + 2 + length (now (x .entry))) (now (m .entry)) (now (m .exit)) ⌝ }
+    ensures { λ r. ⌜ BindsRun (now (x .entry)) (now (m .entry)) end r (now (m .exit)) ⌝ }
+{
+    node::write(m, end, x.len() / 2);
+    run::put(x, m, end + 2);
+    end + 2 + x.len()
 }
 
 // Binds the message of the term at a position after the bound messages that stand from base to end.

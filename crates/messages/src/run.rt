@@ -58,3 +58,15 @@ pub(crate) fn copy(m: &mut [u8], from: usize, to: usize, count: usize)
         done += 1;
     }
 }
+
+// Copies a whole slice into another.
+pub(crate) fn put(x: &[u8], m: &mut [u8], to: usize)
+    requires { ⌜ to + length (now x) ≤ length (now m) ⌝ }
+    ensures { λ _. ⌜ now (m .exit) ≡ paste (now (m .entry)) to (now (x .entry)) (length (now (x .entry))) ⌝ }
+{
+    let mut put = 0;
+    while put < x.len() {
+        m[to + put] = x[put];
+        put += 1;
+    }
+}

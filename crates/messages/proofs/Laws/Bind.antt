@@ -1,23 +1,25 @@
 -- A message bound after others: the number of its nodes, and its run ("Steps"). Assumes nothing.
-use mathlib.Core.Path.{_≡_, sym, _∙_}
+use mathlib.Core.Path.{_≡_, sym, ap, _∙_}
 use mathlib.Core.Bool.{false, true≢false}
 use mathlib.Core.List.{List, [], _∷_, append-nil}
 use Prim.Native.Nat.{ℕ, _+_, _-_, _*_, _/_, _%_, _≤_, _<_}
 use native.Mathlib.Omega.{arith}
 use lib.ListN.{length, set}
+use lib.Seq.{paste, take-length}
 use Rattle.meaning.specs.Messages.Term.{Term, Message, leaf, private, nodes}
 use Rattle.meaning.specs.Messages.Normal.{size}
 use Rattle.meaning.specs.Bytes.Standing.{Stands}
 use Rattle.meaning.specs.Steps.State.{Bound, _▸_, worked}
 use Rattle.meaning.specs.Judging.Limits.{over}
-use Rattle.meaning.proofs.Bytes.Reading.Place.{_⨾_}
+use Rattle.meaning.proofs.Bytes.Reading.Place.{_⨾_, whole-stands}
 use Rattle.messages.specs.Encoding.{encodeMessage}
 use Rattle.messages.specs.Buffer.{Within}
-use Rattle.messages.specs.Bound.{encodeBound, encodeEntry, BoundAt, Binds}
+use Rattle.messages.specs.Bound.{encodeBound, encodeEntry, BoundAt, Binds, BindsRun}
 use Rattle.messages.specs.Work.{TermAt, answerOf, endOf, Works, BindWorked, Reaches}
 use Rattle.messages.specs.declared.work.Worked.{Worked}
 use Rattle.messages.specs.declared.work.Worked.the-variants.{Message as Made, TooLarge}
-use Rattle.messages.proofs.Laws.Buffer.{kept, kept-above, unchanged, one-after, node-within, node-stands}
+use Rattle.messages.proofs.Laws.Encoding.{length-encode}
+use Rattle.messages.proofs.Laws.Buffer.{splice, splice-within, splice-stands, kept, kept-above, unchanged, one-after, node-within, node-stands}
 use Rattle.messages.proofs.Laws.Bound.{bound-append}
 use Rattle.messages.proofs.Laws.Work.{said-over, said-small, still-bound}
 
@@ -54,6 +56,33 @@ module _ (s t : List ℕ) (end n : ℕ) {u : List ℕ} (v : t ≡ set (set s end
   }
 
 pub ruleset names = (name-within, name-bound)
+
+-- A message that stands in another slice.
+module _ (x m m₁ : List ℕ) (end : ℕ) {m₂ : List ℕ} (v : m₁ ≡ set (set m end (length x / 2 % 256)) (end + 1) (length x / 2 / 256))
+    (e : m₂ ≡ paste m₁ (end + 2) x (length x)) (h : (end + 2 + length x ≤ length m) × (length x ≤ 510)) where
+  number-within : Within end (end + 2) m m₁
+  number-within = node-within m end (length x / 2) v (omega arith)
+
+  pasted : m₂ ≡ splice m₁ (end + 2) x
+  pasted = e ∙ rw take-length
+
+  run-put : Within (end + 2) (end + 2 + length x) m₁ m₂
+  run-put = rw pasted (splice-within m₁ (end + 2) x (omega (arith, number-within .long)))
+
+  pub message-within : Within end (end + 2 + length x) m m₂
+  message-within = one-after number-within run-put (omega arith) (omega arith) (omega arith) (omega arith)
+
+  pub message-bound : BindsRun x m end (end + 2 + length x) m₂
+  message-bound = record {
+    exact = λ y f.
+        let size : length x / 2 ≡ nodes y = omega (arith, length-encode y, ap length f) in
+        let number = rw size at (kept {low = end + 2} (node-stands m end (length x / 2) v (omega arith)) (omega arith) (run-put .below)) in
+        let run : Stands m₂ (end + 2) (encodeMessage y) (end + 2 + length x) =
+        rw (pasted, ← f) (splice-stands m₁ (end + 2) x (omega (arith, number-within .long)) (whole-stands x)) in
+        record { exact = λ ρ p. one-more ρ y (kept {low = end} p (omega arith) (message-within .below)) (number ⨾ run) };
+  }
+
+pub ruleset messages = (message-within, message-bound)
 
 -- The message of a term.
 module _ {s m m₁ : List ℕ} {at base end : ℕ} {r : Worked} (f : Works s at 8 m base (end + 2) r m₁) where

@@ -41,3 +41,14 @@ pub copy-done : {now : List ℕ} (m : List ℕ) (from to count i : ℕ) → now 
 copy-done m from to count i e h l = let all : count ≡ i = omega arith in rw all e
 
 pub ruleset copies = (paste-zero, copy-more, copy-done)
+
+-- A copy of a whole slice.
+pub put-more : {now : List ℕ} (m x : List ℕ) (to i : ℕ) → now ≡ paste m to x i → i < length x → to + length x ≤ length m
+    → set now (to + i) (getD x i 0) ≡ paste m to x (i + 1)
+put-more m x to i e h room = rw (e, add-one) (paste-suc m to x i 0 (omega arith) h)
+
+pub put-done : {now : List ℕ} (m x : List ℕ) (to i : ℕ) → now ≡ paste m to x i → i ≤ length x → length x ≤ i
+    → now ≡ paste m to x (length x)
+put-done m x to i e h l = let all : length x ≡ i = omega arith in rw all e
+
+pub ruleset puts = (paste-zero, put-more, put-done)

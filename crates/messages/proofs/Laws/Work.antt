@@ -70,45 +70,50 @@ binary-from-2 (cipher enc) = omega arith
 binary-from-2 (cipher dec) = omega arith
 binary-from-2 mac = omega arith
 
+-- What is promised of one term.
+abbrev Promised : (s : List ℕ) (at left : ℕ) (m : List ℕ) (base start : ℕ) → Worked → (after : List ℕ) → Term → Type 0
+Promised s at left m base start r after t =
+    (next : ℕ) (ρ : Bound) → TermAt s at left (length ρ) t next → BoundAt m base ρ start → WorkedTo ρ t start next r after
+
 module _ {s m after : List ℕ} {at left base start : ℕ} {r : Worked} where
+  for-each : ((t : Term) → Promised s at left m base start r after t) → Works s at left m base start r after
+  for-each f = record { exact = λ t {next} ρ p b. f t next ρ p b }
+
   -- No term stands there.
   pub no-node-left : left ≡ 0 → Works s at left m base start r after
-  no-node-left z = record { exact = λ t ρ p b. absurd (omega (arith, term-kind t p .1)) }
+  no-node-left z = for-each λ t next ρ p b. absurd (omega (arith, term-kind t p .1))
 
   pub nothing-there : length s ≤ at → Works s at left m base start r after
-  nothing-there h = record { exact = λ t ρ p b. absurd (omega (arith, term-kind t p .0)) }
+  nothing-there h = for-each λ t next ρ p b. absurd (omega (arith, term-kind t p .0))
 
-  -- A public name, a variable.
+  -- A public name, a variable, a node.
   module _ {kind : ℕ} (k : kind ≡ getD s at 0) where
     pub a-name : kind ≡ 0 → NameWorked s (at + 1) start r after → Works s at left m base start r after
-    a-name z w = record { exact = only }
+    a-name z w = for-each only
       where
-        only : (t : Term) {next : ℕ} (ρ : Bound) → TermAt s at left (length ρ) t next → BoundAt m base ρ start
-            → WorkedTo ρ t start next r after
-        only (leaf (name n)) ρ p b = let (e, h, q) = of-name n p in w .exact n ρ (omega arith) q
-        only (leaf (variable n)) ρ p b = absurd (omega (arith, of-variable n p .0))
-        only (proj t u) ρ p b = absurd (omega (arith, of-proj t u p .0, side-from-2 t))
-        only (binary c u v) ρ p b = absurd (omega (arith, of-binary c u v p .0, binary-from-2 c))
+        only : (t : Term) → Promised s at left m base start r after t
+        only (leaf (name n)) next ρ p b = let (e, h, q) = of-name n p in w .exact n ρ (omega arith) q
+        only (leaf (variable n)) next ρ p b = absurd (omega (arith, of-variable n p .0))
+        only (proj t u) next ρ p b = absurd (omega (arith, of-proj t u p .0, side-from-2 t))
+        only (binary c u v) next ρ p b = absurd (omega (arith, of-binary c u v p .0, binary-from-2 c))
 
     pub a-variable : kind ≡ 1 → VariableWorked s (at + 1) m base start r after → Works s at left m base start r after
-    a-variable z w = record { exact = only }
+    a-variable z w = for-each only
       where
-        only : (t : Term) {next : ℕ} (ρ : Bound) → TermAt s at left (length ρ) t next → BoundAt m base ρ start
-            → WorkedTo ρ t start next r after
-        only (leaf (name n)) ρ p b = absurd (omega (arith, of-name n p .0))
-        only (leaf (variable n)) ρ p b = let (e, h, q) = of-variable n p in w .exact n ρ q h b
-        only (proj t u) ρ p b = absurd (omega (arith, of-proj t u p .0, side-from-2 t))
-        only (binary c u v) ρ p b = absurd (omega (arith, of-binary c u v p .0, binary-from-2 c))
+        only : (t : Term) → Promised s at left m base start r after t
+        only (leaf (name n)) next ρ p b = absurd (omega (arith, of-name n p .0))
+        only (leaf (variable n)) next ρ p b = let (e, h, q) = of-variable n p in w .exact n ρ q h b
+        only (proj t u) next ρ p b = absurd (omega (arith, of-proj t u p .0, side-from-2 t))
+        only (binary c u v) next ρ p b = absurd (omega (arith, of-binary c u v p .0, binary-from-2 c))
 
     pub a-node : (kind ≡ 0 → ⊥) → (kind ≡ 1 → ⊥) → NodeWorked s (at + 1) (left - 1) m base start kind r after
         → Works s at left m base start r after
-    a-node no-name no-variable w = record { exact = only }
+    a-node no-name no-variable w = for-each only
       where
-        only : (t : Term) {next : ℕ} (ρ : Bound) → TermAt s at left (length ρ) t next → BoundAt m base ρ start
-            → WorkedTo ρ t start next r after
-        only (leaf (name n)) ρ p b = absurd (no-name (k ∙ of-name n p .0))
-        only (leaf (variable n)) ρ p b = absurd (no-variable (k ∙ of-variable n p .0))
-        only (proj t u) ρ p b = let (e, q) = of-proj t u p in w .one t u ρ (k ∙ e) q b
-        only (binary c u v) ρ p b = let (e, (mid, q, o)) = of-binary c u v p in w .two c u v ρ (k ∙ e) q o b
+        only : (t : Term) → Promised s at left m base start r after t
+        only (leaf (name n)) next ρ p b = absurd (no-name (k ∙ of-name n p .0))
+        only (leaf (variable n)) next ρ p b = absurd (no-variable (k ∙ of-variable n p .0))
+        only (proj t u) next ρ p b = let (e, q) = of-proj t u p in w .one t u ρ (k ∙ e) q b
+        only (binary c u v) next ρ p b = let (e, (mid, q, o)) = of-binary c u v p in w .two c u v ρ (k ∙ e) q o b
 
 pub ruleset works = (no-node-left, nothing-there, a-name, a-variable, a-node)
