@@ -1,9 +1,9 @@
 // The bound messages of a case, and what is asked of the last of them.
 use crate::tell;
 use crate::text;
-use messages::bind;
-use messages::work;
-use messages::work::Worked;
+use terms::bind;
+use terms::work;
+use terms::work::Worked;
 
 // The bytes for bound messages, and the last position at which one more has room: `bind::term` asks for two bytes more than `work::REACH`.
 pub(crate) const SPACE: usize = 16384;

@@ -1,9 +1,4 @@
-// Messages as runs of bytes in a lent slice: size, comparison, normal form, and the working of terms and recipes ("Messages").
-pub mod bind;
-mod bound;
-mod field;
-mod leaf;
-mod node;
+// Messages as runs of bytes in a lent slice: size, comparison, copies and the normal form ("Messages").
+pub mod node;
 pub mod normal;
 pub mod run;
-pub mod work;

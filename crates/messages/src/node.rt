@@ -21,7 +21,7 @@ const KINDS: usize = 8;
 const PARTS: [usize; KINDS] = [0, 0, 2, 1, 1, 2, 2, 2];
 
 // A byte as a wider number.
-pub(crate) fn wide(b: u8) -> usize
+pub fn wide(b: u8) -> usize
     ensures { λ r. ⌜ r ≡ b ⌝ }
     ensures { λ r. ⌜ r < 256 ⌝ }
 {
@@ -29,7 +29,7 @@ pub(crate) fn wide(b: u8) -> usize
 }
 
 // The number of the node at a position.
-pub(crate) fn number(m: &[u8], at: usize) -> usize
+pub fn number(m: &[u8], at: usize) -> usize
     requires { ⌜ at + 1 < length (now m) ⌝ }
     ensures { λ r. ⌜ r ≡ numberAt (now (m .entry)) at ⌝ }
     ensures { λ r. ⌜ r < 65536 ⌝ }
@@ -38,7 +38,7 @@ pub(crate) fn number(m: &[u8], at: usize) -> usize
 }
 
 // How many parts a node with this number has.
-pub(crate) fn parts(number: usize) -> usize
+pub fn parts(number: usize) -> usize
     ensures { λ r. ⌜ r ≡ partsOf number ⌝ }
 {
     if number < KINDS {
@@ -48,7 +48,7 @@ pub(crate) fn parts(number: usize) -> usize
 }
 
 // Writes the number of a node at a position.
-pub(crate) fn write(m: &mut [u8], at: usize, number: usize)
+pub fn write(m: &mut [u8], at: usize, number: usize)
     requires { ⌜ at + 1 < length (now m) ⌝ }
     requires { ⌜ number < 65536 ⌝ }
     ensures { λ _. ⌜ now (m .exit) ≡ set (set (now (m .entry)) at (number % 256)) (at + 1) (number / 256) ⌝ }

@@ -8,7 +8,7 @@ ghost use lib.Seq.{paste};
 ghost use Rattle.messages.specs.Run.{alike, SizeOf, Decides};
 
 // A part of a slice, from one position to another.
-pub(crate) struct Part(pub usize, pub usize);
+pub struct Part(pub usize, pub usize);
 
 // The nodes of the message that stands at the front: a node is counted, and its parts are still to come.
 pub fn size(m: &[u8]) -> usize
@@ -46,7 +46,7 @@ pub fn compare(a: &[u8], b: &[u8]) -> bool
 }
 
 // Copies so many bytes, lowest first, so none that is still to be copied may be written over.
-pub(crate) fn copy(m: &mut [u8], from: usize, to: usize, count: usize)
+pub fn copy(m: &mut [u8], from: usize, to: usize, count: usize)
     requires { ⌜ from + count ≤ length (now m) ⌝ }
     requires { ⌜ to + count ≤ length (now m) ⌝ }
     requires { ⌜ (to ≤ from) ⊎ (from + count ≤ to) ⌝ }
@@ -60,7 +60,7 @@ pub(crate) fn copy(m: &mut [u8], from: usize, to: usize, count: usize)
 }
 
 // Copies a whole slice into another.
-pub(crate) fn put(x: &[u8], m: &mut [u8], to: usize)
+pub fn put(x: &[u8], m: &mut [u8], to: usize)
     requires { ⌜ to + length (now x) ≤ length (now m) ⌝ }
     ensures { λ _. ⌜ now (m .exit) ≡ paste (now (m .entry)) to (now (x .entry)) (length (now (x .entry))) ⌝ }
 {

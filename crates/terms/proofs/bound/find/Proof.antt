@@ -1,0 +1,18 @@
+-- `terms::bound::find` meets its contract, by the number that stands where the entry begins. Assumes nothing.
+use borrow.Author.Needs.{needs}
+use Rattle.terms.proofs.Laws.Bound.{lookups}
+use Rattle.terms.proofs.bound.find.Statement.{statement}
+use Rattle.terms.proofs.bound.find.Tie as tie
+
+pub find-spec : {M : Type 1} → statement M
+find-spec = tie.close (tie.spec
+    (λ c κs. search needs)
+    (λ c. search needs)
+    (λ c. search (needs, lookups))
+    (λ c. search needs)
+    (λ c κs. search needs)
+    (λ c. search needs)
+    (λ c. search needs)
+    (λ c. search (needs, lookups))
+    (λ c. search needs)
+    (λ c. search (needs, lookups)))

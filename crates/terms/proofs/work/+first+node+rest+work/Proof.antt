@@ -1,0 +1,135 @@
+-- `terms::work::work`, `node`, `first` and `rest` meet their contracts: leaves first, then a node over its parts. The measure is
+-- the number of term nodes left, three steps to a node. Assumes nothing.
+use Prim.Native.Nat.{ℕ, _+_, _*_, _<_}
+use borrow.Author.Needs.{needs}
+use borrow.Fn.Kinds.{In}
+use borrow.Fn.PlainCycle.{Measures, is, falls, and}
+use Rattle.messages.proofs.Laws.Buffer.{unchanged}
+use Rattle.terms.proofs.Laws.Leaf.{no-reach}
+use Rattle.terms.proofs.Laws.Work.{works}
+use Rattle.terms.proofs.Laws.Inner.{joins, behind-kind, firsts}
+use Rattle.terms.proofs.Laws.Room.{term-rooms, rest-rooms, rest-withins, first-within, node-rooms, rest-within}
+use Rattle.terms.proofs.work.first.Reads as first
+use Rattle.terms.proofs.work.first.Kinds as first-kinds
+use Rattle.terms.proofs.work.+first+node+rest+work.Lts-first as first-lts
+use Rattle.terms.proofs.work.node.Reads as node
+use Rattle.terms.proofs.work.node.Kinds as node-kinds
+use Rattle.terms.proofs.work.+first+node+rest+work.Lts-node as node-lts
+use Rattle.terms.proofs.work.rest.Reads as rest
+use Rattle.terms.proofs.work.rest.Kinds as rest-kinds
+use Rattle.terms.proofs.work.+first+node+rest+work.Lts-rest as rest-lts
+use Rattle.terms.proofs.work.work.Reads as work
+use Rattle.terms.proofs.work.work.Kinds as work-kinds
+use Rattle.terms.proofs.work.+first+node+rest+work.Lts-work as work-lts
+use Rattle.messages.proofs.node.parts.Reads as parts-reads
+use Rattle.messages.proofs.node.wide.Reads as wide-reads
+use Rattle.messages.proofs.node.write.Reads as write-reads
+use Rattle.terms.proofs.leaf.name.Reads as name-reads
+use Rattle.terms.proofs.work.reduce.Reads as reduce-reads
+use Rattle.terms.proofs.leaf.variable.Reads as variable-reads
+use Rattle.terms.proofs.work.+first+node+rest+work.{statement}
+use Rattle.terms.proofs.work.+first+node+rest+work.Tie.{close}
+
+abbrev μ-first : Measures 2 first-kinds.ps ℕ
+μ-first κs a = 3 * a .1 .1 .0 + 3
+
+abbrev μ-node : Measures 2 node-kinds.ps ℕ
+μ-node κs a = 3 * a .1 .1 .0 + 4
+
+abbrev μ-rest : Measures 2 rest-kinds.ps ℕ
+μ-rest κs a = 3 * a .1 .1 .0 + 3
+
+abbrev μ-work : Measures 2 work-kinds.ps ℕ
+μ-work κs a = 3 * a .1 .1 .0 + 2
+
+abbrev first-at : ℕ → In 2 first-kinds.ps
+first-at t = and 2 first-kinds.ps (is 2 first-kinds.ps μ-first t) first.Pre
+
+abbrev first-below : ℕ → In 2 first-kinds.ps
+first-below t = and 2 first-kinds.ps (falls 2 first-kinds.ps _<_ μ-first t) first.Pre
+
+abbrev node-at : ℕ → In 2 node-kinds.ps
+node-at t = and 2 node-kinds.ps (is 2 node-kinds.ps μ-node t) node.Pre
+
+abbrev node-below : ℕ → In 2 node-kinds.ps
+node-below t = and 2 node-kinds.ps (falls 2 node-kinds.ps _<_ μ-node t) node.Pre
+
+abbrev rest-at : ℕ → In 2 rest-kinds.ps
+rest-at t = and 2 rest-kinds.ps (is 2 rest-kinds.ps μ-rest t) rest.Pre
+
+abbrev rest-below : ℕ → In 2 rest-kinds.ps
+rest-below t = and 2 rest-kinds.ps (falls 2 rest-kinds.ps _<_ μ-rest t) rest.Pre
+
+abbrev work-at : ℕ → In 2 work-kinds.ps
+work-at t = and 2 work-kinds.ps (is 2 work-kinds.ps μ-work t) work.Pre
+
+abbrev work-below : ℕ → In 2 work-kinds.ps
+work-below t = and 2 work-kinds.ps (falls 2 work-kinds.ps _<_ μ-work t) work.Pre
+
+pub +first+node+rest+work-spec : {M : Type 1} → statement M
++first+node+rest+work-spec = close μ-first μ-node μ-rest μ-work (λ t. first-lts.spec
+    (write-reads.Asked, write-reads.Learnt, work-below t, work.Post)
+    (first-at t)
+    first.Post
+    (λ c κs. search needs)
+    (λ c. search needs)
+    (λ c κs. search needs)
+    (λ c. search needs)
+    (λ c. (search (needs, first-within), (search needs, search (needs, behind-kind)))))
+    (λ t. node-lts.spec
+    (first-below t, first.Post, rest-below t, rest.Post)
+    (node-at t)
+    node.Post
+    (λ c κs. search needs)
+    (λ c. search needs)
+    (λ c κs. search (needs, node-rooms))
+    (λ c. search needs)
+    (λ c. search needs)
+    (λ c. (search (needs, rest-within), (search needs, search (needs, firsts))))
+    (λ c. search needs)
+    (λ c. (search needs, (no-reach, search (needs, firsts)))))
+    (λ t. rest-lts.spec
+    (parts-reads.Asked, parts-reads.Learnt, reduce-reads.Asked, reduce-reads.Learnt, work-below t, work.Post)
+    (rest-at t)
+    rest.Post
+    (λ c κs. search needs)
+    (λ c κs. search needs)
+    (λ c. search needs)
+    (λ c. (search (needs, rest-withins), (search needs, search (needs, joins))))
+    (λ c κs. search needs)
+    (λ c. search needs)
+    (λ c κs. search (needs, rest-rooms))
+    (λ c. search needs)
+    (λ c. search needs)
+    (λ c. (search (needs, rest-withins), (search needs, search (needs, joins))))
+    (λ c. search needs)
+    (λ c. (search (needs, rest-withins), (no-reach, search (needs, joins)))))
+    λ t. work-lts.spec (
+      wide-reads.Asked,
+      wide-reads.Learnt,
+      name-reads.Asked,
+      name-reads.Learnt,
+      variable-reads.Asked,
+      variable-reads.Learnt,
+      node-below t,
+      node.Post,
+    )
+    (work-at t)
+    work.Post
+    (λ c. search (needs, unchanged, no-reach, works))
+    (λ c. search (needs, unchanged, no-reach, works))
+    (λ c. search needs)
+    (λ c κs. search needs)
+    (λ c. search needs)
+    (λ c κs. search needs)
+    (λ c. search needs)
+    (λ c. (search (needs, term-rooms), (search (needs, term-rooms), search (needs, works))))
+    (λ c. search needs)
+    (λ c κs. search needs)
+    (λ c. search needs)
+    (λ c. (search (needs, term-rooms), (search (needs, term-rooms), search (needs, works))))
+    (λ c. search needs)
+    (λ c. search needs)
+    (λ c κs. search needs)
+    (λ c. search needs)
+    (λ c. (search (needs, term-rooms), (search (needs, term-rooms), search (needs, works))))

@@ -1,0 +1,4 @@
+pub mod Bound
+pub mod Work
+pub mod Inner
+pub mod Theorems

@@ -1,0 +1,6 @@
+// Terms and recipes worked under bound messages, and the binding of messages ("Messages"; "Steps").
+pub mod bind;
+mod bound;
+mod field;
+mod leaf;
+pub mod work;
