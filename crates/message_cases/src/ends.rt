@@ -2,16 +2,12 @@
 use crate::tell;
 use crate::text;
 use terms::bind;
-use terms::work;
 use terms::work::Worked;
 
-// The bytes for bound messages, and the last position at which one more has room: `bind::term` asks for two bytes more than `work::REACH`.
+// The bytes for bound messages, and the last position at which one more has room: `bind::term` asks for `bind::REACH` bytes.
 pub(crate) const SPACE: usize = 16384;
 
-const LAST_START: usize = SPACE - work::REACH - 2;
-
-// The largest number of a private name.
-const LAST_NAME: usize = 32759;
+const LAST_START: usize = SPACE - bind::REACH;
 
 // The bound messages: where the last but one begins, where the last begins and ends, and the next private name.
 pub(crate) struct Ends {
@@ -47,13 +43,18 @@ impl Ends {
         }
         if text::find(step, 0, b'n') < step.len() {
             let name = name_of(&bytes[0..n], self.names);
-            if LAST_NAME < name {
+            if bind::LAST_NAME < name {
                 return stop(b" : no name in step ", number);
             }
             return Taken::Bound(self.and(bind::name(m, end, name), name + 1));
         }
         match bind::term(&bytes[0..n], 0, m, 0, end) {
-            Worked::Message(_, next) => Taken::Bound(self.and(next, self.names)),
+            Worked::Done(next, last) => {
+                if next != n {
+                    return stop(b" : bytes left over in step ", number);
+                }
+                Taken::Bound(self.and(last, self.names))
+            }
             Worked::TooLarge => stop(b" : too large in step ", number),
         }
     }
@@ -88,8 +89,11 @@ fn stop(why: &[u8], number: usize) -> Taken {
     Taken::Stopped
 }
 
-// The number of a private name: the one that is written, if any, else the next.
+// The number of a private name: the one that is written, if any, in one byte or in two, the lower one first; else the next.
 fn name_of(bytes: &[u8], next: usize) -> usize {
+    if 1 < bytes.len() {
+        return text::wide(bytes[0]) + 256 * text::wide(bytes[1]);
+    }
     if 0 < bytes.len() {
         return text::wide(bytes[0]);
     }

@@ -1,8 +1,8 @@
 // Runs a table of messages through the library and writes each answer behind its line ("Messages"; "Judging and its count", 255
-// nodes). What stdout has was worked out from document 01 by a program in another language.
+// nodes). What stdout has was worked out from document 01, apart from the library.
 //
 // A line that starts with `work`, `size` or `equal` is a case. Behind that word stand steps, with `|` between them. A step binds the
-// next variable, from 0: `new` the next private name, `new 79` the private name with that number, and any other step the message of
+// next variable, from 0: `new` the next private name, `new 79` or `new F7 7F` the private name with that number, in one byte or in two, the lower one first, and any other step the message of
 // the term that its bytes are, worked under the variables before it. A byte is two digits, 0 to 9 or A to F; other characters are
 // passed over. `work` asks for the size and the nodes of the last message, `size` for its size alone, and `equal` whether the last
 // two messages are equal. If a message is too large, the answer is in which step of the line, counted from 0. A line that starts

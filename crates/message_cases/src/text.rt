@@ -1,5 +1,5 @@
 // The text of a line: where a character stands, and the bytes that digits spell.
-ghost use Prim.Native.Nat.{_*_, _≤_};
+ghost use Prim.Native.Nat.{_*_, _≤_, _<_};
 ghost use lib.ListN.{length};
 
 // Where the character stands first, from start on, or where the text ends.
@@ -30,7 +30,9 @@ fn digit(c: u8) -> usize {
 }
 
 // A byte as a wider number.
-pub(crate) fn wide(b: u8) -> usize {
+pub(crate) fn wide(b: u8) -> usize
+    ensures { λ r. ⌜ r < 256 ⌝ }
+{
     b as usize
 }
 

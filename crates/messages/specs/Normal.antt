@@ -8,6 +8,7 @@ use Rattle.meaning.specs.Messages.Normal.{normal}
 use Rattle.meaning.specs.Bytes.Standing.{Stands}
 use Rattle.messages.specs.Encoding.{encodeMessage}
 
+-- The parts of a message are in normal form, whether or not it is itself.
 abbrev pub PartsNormal : Message → Type 0
 PartsNormal (leaf a) = Unit {0}
 PartsNormal (proj s m) = Normal m

@@ -27,7 +27,7 @@ RunsEnd =
     (s : List ℕ) (at : ℕ) (m n : Message) (i j : ℕ) → Stands s at (encodeMessage m) i → Stands s at (encodeMessage n) j
     → (m ≡ n) × (i ≡ j)
 
--- Names that two bytes have room for: public names as far as a number of two bytes goes, and private names to 32,759.
+-- Names that two bytes have room for: public names to 16,383, the most that document 01's numbers reach, and private names to 32,759.
 abbrev pub SmallName : Name → Type 0
 SmallName (public n) = n ≤ 16383
 SmallName (private n) = n ≤ 32759

@@ -4,12 +4,10 @@ ghost use Prim.Native.Nat.{_+_, _<_, _%_, _/_};
 ghost use lib.ListN.{length, set};
 ghost use Rattle.messages.specs.Encoding.{numberAt, partsOf};
 
-// The kinds that the equations name, by document 01's numbers for terms.
+// Kinds by document 01's numbers for terms.
 pub(crate) const PAIR: usize = 2;
 
 pub(crate) const FST: usize = 3;
-
-pub(crate) const SND: usize = 4;
 
 pub(crate) const ENC: usize = 5;
 

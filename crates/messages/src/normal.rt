@@ -3,8 +3,8 @@ use crate::node;
 use crate::run;
 use crate::run::Part;
 ghost use Prim.Native.Nat.{_≤_};
-ghost use mathlib.Core.Path.{_≡_};
 ghost use lib.ListN.{length};
+ghost use Rattle.messages.specs.Buffer.{Within};
 ghost use Rattle.messages.specs.Normal.{Projects, Undoes, Survives, Normalised};
 
 // fst or snd, by its kind: of a pair, the first part or the second; else the whole.
@@ -23,7 +23,7 @@ fn projected(m: &[u8], kind: usize) -> Part
     Part(end, m.len())
 }
 
-// enc or dec, by its opposite: over that and under the same key, what that was applied to; else the whole.
+// enc or dec, by its opposite: over that under the same key, the message inside; else the whole.
 fn undone(m: &[u8], mid: usize, opposite: usize) -> Part
     requires { ⌜ (4 ≤ mid) × (mid ≤ length (now m)) ⌝ }
     ensures { λ r. ⌜ (r .0 ≤ r .1) × (r .1 ≤ length (now (m .entry))) ⌝ }
@@ -39,7 +39,7 @@ fn undone(m: &[u8], mid: usize, opposite: usize) -> Part
     Part(0, m.len())
 }
 
-// The part of a message that its normal form is; the first of its own parts ends at mid.
+// Which part of the message is its normal form. The first of the message's own parts ends at mid.
 fn surviving(m: &[u8], mid: usize) -> Part
     requires { ⌜ mid ≤ length (now m) ⌝ }
     ensures { λ r. ⌜ (r .0 ≤ r .1) × (r .1 ≤ length (now (m .entry))) ⌝ }
@@ -61,12 +61,12 @@ fn surviving(m: &[u8], mid: usize) -> Part
     Part(0, m.len())
 }
 
-// Puts the normal form of the message that the slice is at the front of the slice, and answers where it ends. The message's parts
-// are in normal form, and the first of them ends at mid.
+// The slice is one message, its parts in normal form, the first of them ending at mid. Puts its normal form at the front, and answers
+// where that ends. Of any other slice or mid, nothing is said but the bounds.
 pub fn normalise(m: &mut [u8], mid: usize) -> usize
     requires { ⌜ mid ≤ length (now m) ⌝ }
     ensures { λ r. ⌜ r ≤ length (now (m .entry)) ⌝ }
-    ensures { λ _. ⌜ length (now (m .exit)) ≡ length (now (m .entry)) ⌝ }
+    ensures { λ r. ⌜ Within 0 r (now (m .entry)) (now (m .exit)) ⌝ }
     ensures { λ r. ⌜ Normalised (now (m .entry)) mid r (now (m .exit)) ⌝ }
 {
     let Part(from, end) = surviving(m, mid);

@@ -10,7 +10,8 @@ ghost use Rattle.messages.specs.Run.{alike, SizeOf, Decides};
 // A part of a slice, from one position to another.
 pub struct Part(pub usize, pub usize);
 
-// The nodes of the message that stands at the front: a node is counted, and its parts are still to come.
+// The nodes of the message that stands at the front; of a normal form, that is its size. A node is counted, and its parts are still to
+// come.
 pub fn size(m: &[u8]) -> usize
     ensures { λ r. ⌜ 2 * r ≤ length (now (m .entry)) ⌝ }
     ensures { λ r. ⌜ SizeOf (now (m .entry)) r ⌝ }
@@ -59,7 +60,7 @@ pub fn copy(m: &mut [u8], from: usize, to: usize, count: usize)
     }
 }
 
-// Copies a whole slice into another.
+// Copies a whole slice to a position of another.
 pub fn put(x: &[u8], m: &mut [u8], to: usize)
     requires { ⌜ to + length (now x) ≤ length (now m) ⌝ }
     ensures { λ _. ⌜ now (m .exit) ≡ paste (now (m .entry)) to (now (x .entry)) (length (now (x .entry))) ⌝ }

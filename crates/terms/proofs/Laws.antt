@@ -8,3 +8,4 @@ pub mod Work
 pub mod Inner
 pub mod Room
 pub mod Bind
+pub mod Decide

@@ -2,16 +2,30 @@
 use mathlib.Core.Path.{refl}
 use mathlib.Core.List.{[], _∷_}
 use native.Mathlib.Omega.{arith}
-use lib.ListN.{length, length-append}
-use Rattle.meaning.specs.Messages.Term.{Message}
+use lib.ListN.{length-append}
+use Rattle.meaning.specs.Messages.Normal.{equal}
 use Rattle.meaning.specs.Bytes.Encoding.{encodeTerm}
-use Rattle.meaning.specs.Places.{Every, none, _also_}
-use Rattle.meaning.specs.Steps.State.{Bound, _▸_}
+use Rattle.meaning.specs.Places.{none, _also_}
+use Rattle.meaning.specs.Steps.State.{worked}
+use Rattle.meaning.specs.Judging.Limits.{boundNodes}
+use Rattle.meaning.proofs.Every.{every-joined}
 use Rattle.meaning.proofs.Bytes.Reading.Place.{whole-stands}
-use Rattle.messages.specs.Encoding.{encodeNode}
-use Rattle.messages.proofs.Laws.Encoding.{runs-end}
+use Rattle.messages.specs.Encoding.{encodeNode, encodeMessage}
+use Rattle.messages.proofs.Laws.Encoding.{length-encode, runs-end}
+use Rattle.messages.proofs.Laws.Alike.{same-runs}
+use Rattle.terms.proofs.Laws.Work.{still-bound}
 use Rattle.terms.specs.Bound.{encodeBound}
-use Rattle.terms.specs.Theorems.{BoundInjective, TermsStand, BoundsStand, BoundFurther}
+use Rattle.terms.specs.Theorems.{BoundLength, WorkedTested, BoundInjective, TermsStand, BoundsStand, BoundKept, BoundFurther}
+
+pub boundLength : BoundLength
+unfolding encodeBound encodeNode boundNodes
+boundLength [] = refl
+boundLength (m ∷ ρ) =
+    omega (arith, boundLength ρ, length-encode m, length-append (encodeMessage m) (encodeBound ρ))
+
+pub workedTested : WorkedTested
+unfolding equal
+workedTested ρ σ t u = same-runs (worked ρ t) (worked σ u)
 
 pub boundInjective : BoundInjective
 unfolding encodeBound encodeNode
@@ -27,23 +41,14 @@ pub termsStand : TermsStand
 termsStand scope t h k = record { stands = whole-stands (encodeTerm t); deep = h; scoped = k }
 
 pub boundsStand : BoundsStand
-boundsStand ρ h k = record {
-  end = length (encodeBound ρ);
-  stands = whole-stands (encodeBound ρ);
-  below = omega arith;
-  few = k;
-  normal = h;
-}
+boundsStand ρ h k = record { stands = whole-stands (encodeBound ρ); few = k; normal = h }
 
-every-after : {P : Message → Type 0} {ρ : Bound} {m : Message} → Every P ρ → P m → Every P (ρ ▸ m)
-every-after none q = q also none
-every-after (p also ps) q = p also every-after ps q
+pub boundKept : BoundKept
+boundKept before after base start low high ρ b w h = still-bound b w h (omega arith)
 
 pub boundFurther : BoundFurther
-boundFurther before after base end last ρ m p h k few b = record {
-  end = last;
-  stands = b .exact ρ p;
-  below = omega arith;
+boundFurther before after base end last ρ m b n few bs = record {
+  stands = bs .exact ρ (b .stands);
   few = omega (arith, length-append ρ (m ∷ []));
-  normal = every-after h k;
+  normal = every-joined (b .normal) (n also none);
 }

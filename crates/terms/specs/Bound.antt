@@ -27,19 +27,23 @@ pub record Found (b : List ℕ) (k from end : ℕ) : Type 0 where
   pub there : (ρ : Bound) {last : ℕ} → Stands b 0 (encodeBound ρ) last → k < length ρ
       → Stands b from (encodeMessage (getD ρ k (leaf (public 0)))) end
 
--- Bound messages, all in normal form, stand at the position base and end at start or before it. They are no more than a number of
--- a variable goes.
-pub record BoundAt (m : List ℕ) (base : ℕ) (ρ : Bound) (start : ℕ) : Type 0 where
-  pub end : ℕ
+-- Bound messages, all in normal form, stand from the position base to the position end. They are at most as many as two bytes can
+-- number.
+pub record BoundTo (m : List ℕ) (base : ℕ) (ρ : Bound) (end : ℕ) : Type 0 where
   pub stands : Stands m base (encodeBound ρ) end
-  pub below : end ≤ start
   pub few : length ρ ≤ 16384
   pub normal : Every Normal ρ
+
+-- They end at the position start or before it.
+pub record BoundAt (m : List ℕ) (base : ℕ) (ρ : Bound) (start : ℕ) : Type 0 where
+  pub end : ℕ
+  pub bound : BoundTo m base ρ end
+  pub below : end ≤ start
 
 -- Whatever messages are bound up to the position end, m is bound after them, up to the position last.
 pub record Binds (before : List ℕ) (end : ℕ) (m : Message) (last : ℕ) (after : List ℕ) : Type 0 where
   pub exact : (ρ : Bound) {base : ℕ} → Stands before base (encodeBound ρ) end → Stands after base (encodeBound (ρ ▸ m)) last
 
--- So it is for the message that the slice x is.
+-- The same for the message whose run the slice x is.
 pub record BindsRun (x before : List ℕ) (end last : ℕ) (after : List ℕ) : Type 0 where
   pub exact : (m : Message) → x ≡ encodeMessage m → Binds before end m last after

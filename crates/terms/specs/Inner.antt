@@ -37,7 +37,7 @@ pub record Reduced (before : List ℕ) (start mid end next : ℕ) (r : Worked) (
   pub run : (x : Message) → PartsNormal x → Stands before start (encodeMessage x) end → mid ≡ start + firstEnd x
       → ltb 255 (size x) ≡ false → Stands after start (encodeMessage (normal x)) (start + 2 * size x)
 
--- They are those for whatever term of the kind given has its parts from the position at on.
+-- The answer and the bytes after the call are those for whatever term of the kind given has its parts from the position at on.
 pub record NodeWorked (s : List ℕ) (at left : ℕ) (before : List ℕ) (base start kind : ℕ) (r : Worked) (after : List ℕ) : Type 0 where
   pub one : (t : Side) (u : Term) {next : ℕ} (ρ : Bound) → kind ≡ sideKind t → TermAt s at left (length ρ) u next
       → BoundAt before base ρ start → WorkedTo ρ (proj t u) start next r after

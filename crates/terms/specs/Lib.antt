@@ -1,4 +1,5 @@
 pub mod Bound
 pub mod Work
 pub mod Inner
+pub mod Decide
 pub mod Theorems

@@ -15,9 +15,9 @@ use Rattle.meaning.specs.Judging.Limits.{over}
 use Rattle.messages.specs.Encoding.{encodeMessage}
 use Rattle.terms.specs.Bound.{BoundAt, Binds}
 use Rattle.terms.specs.declared.work.Worked.{Worked}
-use Rattle.terms.specs.declared.work.Worked.the-variants.{Message, TooLarge}
+use Rattle.terms.specs.declared.work.Worked.the-variants.{Done, TooLarge}
 
--- A term stands in s from at to next, with no variable over the scope and at most left nodes on a path.
+-- A term stands in s from at to next, with every variable in scope and at most left nodes on a path.
 pub record TermAt (s : List ℕ) (at left scope : ℕ) (t : Term) (next : ℕ) : Type 0 where
   pub stands : Stands s at (encodeTerm t) next
   pub deep : termDepth t ≤ left
@@ -26,7 +26,7 @@ pub record TermAt (s : List ℕ) (at left scope : ℕ) (t : Term) (next : ℕ) :
 -- The answer: where the term ends and where its message ends; or that it or a part of it is too large.
 unfoldable pub answerOf : Bool → (next end : ℕ) → Worked
 answerOf true next end = TooLarge
-answerOf false next end = Message next end
+answerOf false next end = Done next end
 
 -- A message takes two bytes to a node.
 abbrev pub endOf : Bound → Term → (start : ℕ) → ℕ
@@ -42,12 +42,12 @@ pub record Works (s : List ℕ) (at left : ℕ) (before : List ℕ) (base start 
   pub exact : (t : Term) {next : ℕ} (ρ : Bound) → TermAt s at left (length ρ) t next → BoundAt before base ρ start
       → WorkedTo ρ t start next r after
 
--- A message that was worked has at most 255 nodes, and its term at least one.
+-- Where there is a message it has at most 255 nodes, and there was a node left for its term.
 pub record Reaches (start left : ℕ) (r : Worked) : Type 0 where
-  pub there : (next end : ℕ) → r ≡ Message next end → (start ≤ end) × (end ≤ start + 510) × (1 ≤ left)
+  pub there : (next end : ℕ) → r ≡ Done next end → (start ≤ end) × (end ≤ start + 510) × (1 ≤ left)
 
--- For whatever term stands there, with whatever messages bound from base to end, the answer is that for the term, and its message is
--- bound after them.
+-- For whatever term stands there and whatever messages are bound at base, the answer is that for the term, and its message is bound after
+-- whatever messages are bound up to the position end.
 pub record BindWorked (s : List ℕ) (at : ℕ) (before : List ℕ) (base end : ℕ) (r : Worked) (after : List ℕ) : Type 0 where
   pub answer : (t : Term) {next : ℕ} (ρ : Bound) → TermAt s at 8 (length ρ) t next → BoundAt before base ρ end
       → r ≡ answerOf (over ρ t) next (endOf ρ t (end + 2))

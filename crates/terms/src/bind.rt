@@ -11,7 +11,12 @@ ghost use Rattle.messages.specs.Buffer.{Within};
 ghost use Rattle.terms.specs.Bound.{Binds, BindsRun};
 ghost use Rattle.terms.specs.Work.{BindWorked, Reaches};
 
-// Binds the private name n after the bound messages that end at the position end; the answer is where they end then.
+// The largest private name that two bytes can hold, and how many bytes from the end of the bound messages on `term` may write.
+pub const LAST_NAME: usize = 32759;
+
+pub const REACH: usize = 4098;
+
+// Binds the private name n after the messages whose entries end at the position end; the answer is where they end then.
 pub fn name(m: &mut [u8], end: usize, n: usize) -> usize
     requires { ⌜ (end + 4 ≤ length (now m)) × (n ≤ 32759) ⌝ }
     ensures { λ r. ⌜ r ≡ end + 4 ⌝ }
@@ -23,7 +28,8 @@ pub fn name(m: &mut [u8], end: usize, n: usize) -> usize
     end + 4
 }
 
-// Binds the message that the slice x is, which may be one of another buffer, after the bound messages that end at the position end.
+// Binds the message that the slice x is, a part of another buffer, after the messages whose entries end at the position end; the answer
+// is where they end then.
 pub fn message(x: &[u8], m: &mut [u8], end: usize) -> usize
     requires { ⌜ (end + 2 + length (now x) ≤ length (now m)) × (length (now x) ≤ 510) ⌝ }
     ensures { λ r. ⌜ r ≡ end + 2 + length (now (x .entry)) ⌝ }
@@ -35,7 +41,8 @@ pub fn message(x: &[u8], m: &mut [u8], end: usize) -> usize
     end + 2 + x.len()
 }
 
-// Binds the message of the term at a position after the bound messages that stand from base to end.
+// Works the term at a position under the messages bound at base, and binds its message after whatever messages' entries end at the
+// position end, the same or others. The answer is that of `work::term`; the bytes behind the message are left open.
 pub fn term(s: &[u8], at: usize, m: &mut [u8], base: usize, end: usize) -> Worked
     requires { ⌜ (base ≤ end) × (end + 4098 ≤ length (now m)) ⌝ }
     ensures { λ _. ⌜ Within end (end + 4098) (now (m .entry)) (now (m .exit)) ⌝ }
@@ -43,9 +50,9 @@ pub fn term(s: &[u8], at: usize, m: &mut [u8], base: usize, end: usize) -> Worke
     ensures { λ r. ⌜ BindWorked (now (s .entry)) at (now (m .entry)) base end r (now (m .exit)) ⌝ }
 {
     match work::term(s, at, m, base, end + 2) {
-        Worked::Message(next, last) => {
+        Worked::Done(next, last) => {
             node::write(m, end, (last - end - 2) / 2);
-            Worked::Message(next, last)
+            Worked::Done(next, last)
         }
         Worked::TooLarge => Worked::TooLarge,
     }

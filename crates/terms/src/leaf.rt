@@ -22,7 +22,7 @@ pub(crate) fn name(s: &[u8], at: usize, m: &mut [u8], start: usize) -> Worked
 {
     let Field(n, next) = field::read(s, at);
     node::write(m, start, 2 * n + 16);
-    Worked::Message(next, start + 2)
+    Worked::Done(next, start + 2)
 }
 
 // A variable or an alias: a copy of its message.
@@ -39,5 +39,5 @@ pub(crate) fn variable(s: &[u8], at: usize, m: &mut [u8], base: usize, start: us
         return Worked::TooLarge;
     }
     run::copy(m, base + from, start, count);
-    Worked::Message(next, start + count)
+    Worked::Done(next, start + count)
 }

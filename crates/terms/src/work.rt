@@ -11,7 +11,7 @@ ghost use Rattle.terms.specs.Inner.{Reduced, NodeWorked, FirstWorked, Jo
 // Where the term ends, and where its message ends; or a normal form of more than 255 nodes arose. Where no term stands, the
 // answer is open.
 pub enum Worked {
-    Message(usize, usize),
+    Done(usize, usize),
     TooLarge,
 }
 
@@ -34,7 +34,7 @@ fn reduce(m: &mut [u8], start: usize, mid: usize, end: usize, next: usize) -> Wo
     if BYTES < count {
         return Worked::TooLarge;
     }
-    Worked::Message(next, start + count)
+    Worked::Done(next, start + count)
 }
 
 // The term at a position with so many nodes left on its path, worked at the position start.
@@ -76,12 +76,12 @@ fn node(
     ensures { λ r. ⌜ NodeWorked (now (s .entry)) at left (now (m .entry)) base start kind r (now (m .exit)) ⌝ }
 {
     match first(s, at, left, m, base, start, kind) {
-        Worked::Message(next, mid) => rest(s, next, left, m, base, start, mid, kind),
+        Worked::Done(next, mid) => rest(s, next, left, m, base, start, mid, kind),
         Worked::TooLarge => Worked::TooLarge,
     }
 }
 
-// Its kind, and behind the kind its first part.
+// The kind of such a term, and behind it the first part.
 fn first(
     s: &[u8],
     at: usize,
@@ -100,7 +100,7 @@ fn first(
     work(s, at, left, m, base, start + 2)
 }
 
-// Its second part, if it has one, behind the first, which ends at mid; and then the whole.
+// The second part of such a term, if it has one, behind the first, which ends at mid; and then the whole.
 fn rest(
     s: &[u8],
     at: usize,
@@ -120,12 +120,13 @@ fn rest(
         return reduce(m, start, mid, mid, at);
     }
     match work(s, at, left, m, base, mid) {
-        Worked::Message(next, end) => reduce(m, start, mid, end, next),
+        Worked::Done(next, end) => reduce(m, start, mid, end, next),
         Worked::TooLarge => Worked::TooLarge,
     }
 }
 
-// The term at a position, worked under the bound messages at base into the bytes from start on.
+// The term at a position, worked under the messages bound at base into the bytes from start on. The bytes behind the message, as far as
+// REACH from start, are left open, and so are all of these where the answer is TooLarge.
 pub fn term(s: &[u8], at: usize, m: &mut [u8], base: usize, start: usize) -> Worked
     requires { ⌜ (base ≤ start) × (start + 4096 ≤ length (now m)) ⌝ }
     ensures { λ _. ⌜ Within start (start + 4096) (now (m .entry)) (now (m .exit)) ⌝ }

@@ -6,7 +6,7 @@ use native.Mathlib.Nat.{zero-add, suc-add}
 use native.Mathlib.Numerals.{add-one}
 use native.Mathlib.Omega.{arith}
 use lib.ListN.{length, take, drop, set, length-append, length-drop, take-append-drop}
-use lib.Seq.{take-nil, take-take, drop-drop, take-at, drop-at, take-append-seam, length-take-le, sets-eq, paste}
+use lib.Seq.{take-nil, take-take, drop-drop, take-at, drop-at, take-append-seam, length-take-le, take-length, sets-eq, paste}
 use Rattle.meaning.specs.Bytes.Standing.{Stands}
 use Rattle.meaning.proofs.Bytes.Reading.Place.{stands, whole-stands}
 use Rattle.messages.specs.Encoding.{encodeNode}
@@ -85,7 +85,7 @@ module _ (s : List ℕ) (at : ℕ) (ys : List ℕ) (fits : at + length ys ≤ le
     above = drop-at (take at s ++ ys) (drop (at + length ys) s) (at + length ys) (simp length-append (omega (arith, front)));
   }
 
--- What the code writes is such a list: a node's number, a copy, and a part that was lent and came back.
+-- What the code writes is such a list: a node's number, a copy, another slice, and a part that was lent and came back.
 module _ (s : List ℕ) (at : ℕ) {t : List ℕ} where
   spliced-within : {high : ℕ} (ys : List ℕ) → t ≡ splice s at ys → at + length ys ≡ high → high ≤ length s → Within at high s t
   spliced-within ys e f h = rw (e, ← f) (splice-within s at ys (omega arith))
@@ -119,6 +119,13 @@ module _ (s : List ℕ) (at : ℕ) {t : List ℕ} where
         let same : t ≡ splice s at xs = e ∙ rw (size, seen p) in
         rw size (spliced-stands xs same (omega arith) (whole-stands xs))
 
+  module _ (ys : List ℕ) (e : t ≡ paste s at ys (length ys)) (h : at + length ys ≤ length s) where
+    pub put-within : Within at (at + length ys) s t
+    put-within = spliced-within ys (e ∙ rw take-length) refl h
+
+    pub put-stands : Stands t at ys (at + length ys)
+    put-stands = spliced-stands ys (e ∙ rw take-length) h (whole-stands ys)
+
   module _ (ys : List ℕ) (end : ℕ) (e : t ≡ take at s ++ (ys ++ drop (end - at) (drop at s))) (f : length ys ≡ end - at)
       (l : at ≤ end) (h : end ≤ length s) where
     back : t ≡ splice s at ys
@@ -150,5 +157,5 @@ one-after {s} {t} {u} {low} {high} p q l₁ l₂ h₁ h₂ = record {
 pub unchanged : {s : List ℕ} {low high : ℕ} → Within low high s s
 unchanged = record { long = refl; below = refl; above = refl }
 
-pub wider : {s t : List ℕ} {low high more : ℕ} → Within low high s t → high ≤ more → Within low more s t
-wider {low} {more} p h = one-after p (unchanged {low = low} {high = more}) (omega arith) (omega arith) h (omega arith)
+pub wider : {s t : List ℕ} {low high low₁ high₁ : ℕ} → Within low₁ high₁ s t → low ≤ low₁ → high₁ ≤ high → Within low high s t
+wider {low} {high} p l h = one-after p (unchanged {low = low} {high = high}) l (omega arith) h (omega arith)

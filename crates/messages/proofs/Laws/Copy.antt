@@ -27,14 +27,14 @@ module _ (m : List ℕ) (from to count i : ℕ) (apart : (to ≤ from) ⊎ (from
       let front : from + i < length (take to m) = omega (arith, length-take-le to m (omega arith)) in
       rw (append-assoc, List·getD-append (take to m) _ 0 (from + i) front, getD-take to m (from + i) 0 (omega arith))
 
-  kept : getD (paste m to (drop from m) i) (from + i) 0 ≡ getD m (from + i) 0
-  kept = ⊎-elim above below apart
+  untouched : getD (paste m to (drop from m) i) (from + i) 0 ≡ getD m (from + i) 0
+  untouched = ⊎-elim above below apart
 
   pub copy-more : {now : List ℕ} → now ≡ paste m to (drop from m) i
       → set now (to + i) (getD now (from + i) 0) ≡ paste m to (drop from m) (i + 1)
   copy-more e =
       let reach : i < length (drop from m) = omega (arith, length-drop from m) in
-      rw (e, kept, ← getD-drop from m i 0, add-one) (paste-suc m to (drop from m) i 0 (omega arith) reach)
+      rw (e, untouched, ← getD-drop from m i 0, add-one) (paste-suc m to (drop from m) i 0 (omega arith) reach)
 
 pub copy-done : {now : List ℕ} (m : List ℕ) (from to count i : ℕ) → now ≡ paste m to (drop from m) i → i ≤ count → count ≤ i
     → now ≡ paste m to (drop from m) count

@@ -21,16 +21,16 @@ length-encode (proj s m) = omega (arith, length-encode m)
 length-encode (binary b m n) =
     omega (arith, length-encode m, length-encode n, length-append (encodeMessage m) (encodeMessage n))
 
--- The number of the first node, and how many parts follow it.
+-- The number of the first node, and the parts that follow it.
 abbrev pub headNumber : Message → ℕ
 headNumber (leaf a) = nameNumber a
 headNumber (proj s m) = sideKind s
 headNumber (binary b m n) = binaryKind b
 
-abbrev pub partCount : Message → ℕ
-partCount (leaf a) = 0
-partCount (proj s m) = 1
-partCount (binary b m n) = 2
+abbrev pub inner : Message → List Message
+inner (leaf a) = []
+inner (proj s m) = m ∷ []
+inner (binary b m n) = m ∷ n ∷ []
 
 name-from-16 : (a : Name) → 16 ≤ nameNumber a
 name-from-16 (public n) = omega arith
@@ -52,7 +52,7 @@ pub no-parts : (v : ℕ) → 8 ≤ v → 0 ≡ partsOf v
 unfolding partsOf
 no-parts v h = rw List·getD-eq-default
 
-pub head-parts : (m : Message) → partsOf (headNumber m) ≡ partCount m
+pub head-parts : (m : Message) → partsOf (headNumber m) ≡ length (inner m)
 head-parts (leaf a) = sym (no-parts (nameNumber a) (omega (arith, name-from-16 a)))
 head-parts (proj s m) = side-parts s
 head-parts (binary b m n) = binary-parts b
@@ -60,10 +60,6 @@ head-parts (binary b m n) = binary-parts b
 -- The number of a node is read back from its two bytes.
 pub number-read : (v : ℕ) → v % 256 + 256 * (v / 256) ≡ v
 number-read v = omega arith
-
-pub node-read : (v : ℕ) (xs : List ℕ) → numberAt (encodeNode v ++ xs) 0 ≡ v
-unfolding encodeNode
-node-read v xs = number-read v
 
 pub head-read : (m : Message) (xs : List ℕ) → numberAt (encodeMessage m ++ xs) 0 ≡ headNumber m
 unfolding encodeMessage encodeNode
@@ -82,7 +78,7 @@ module _ (m n : Message) (xs ys : List ℕ) (e : encodeMessage m ++ xs ≡ encod
   same-head : headNumber m ≡ headNumber n
   same-head = sym (head-read m xs) ∙ ap (λ s. numberAt s 0) e ∙ head-read n ys
 
-  same-parts : partCount m ≡ partCount n
+  same-parts : length (inner m) ≡ length (inner n)
   same-parts = sym (head-parts m) ∙ ap partsOf same-head ∙ head-parts n
 
 -- So they are one message's, and end at one place.

@@ -5,8 +5,8 @@ use mathlib.Core.List.{List}
 use Prim.Native.Nat.{ℕ, _+_, _-_, _*_, _≤_, _<_}
 use native.Mathlib.Nat.{zero-add}
 use native.Mathlib.Omega.{arith}
-use lib.ListN.{length, take, drop, length-drop}
-use lib.Seq.{paste, length-paste}
+use lib.ListN.{length, take, drop}
+use lib.Seq.{paste}
 use Rattle.meaning.specs.Messages.Term.{Side, fst, snd, Direction, enc, dec, opposite, pair, cipher, mac, sideKind, binaryKind}
 use Rattle.meaning.specs.Messages.Term.{Message, leaf, proj, binary, nodes}
 use Rattle.meaning.specs.Messages.Equation.{part as taken, Normal}
@@ -14,11 +14,12 @@ use Rattle.meaning.specs.Messages.Normal.{same, project, build, normal}
 use Rattle.meaning.specs.Bytes.Standing.{Stands}
 use Rattle.meaning.proofs.Bytes.Reading.Place.{whole-stands}
 use Rattle.messages.specs.Encoding.{encodeMessage, numberAt, partsOf}
+use Rattle.messages.specs.Buffer.{Within}
 use Rattle.messages.specs.Run.{SizeOf, alike}
 use Rattle.messages.specs.Normal.{PartsNormal, firstEnd, Projects, Undoes, Survives, Normalised}
-use Rattle.messages.proofs.Laws.Encoding.{headNumber, partCount, head-parts}
+use Rattle.messages.proofs.Laws.Encoding.{headNumber, inner, head-parts}
 use Rattle.messages.proofs.Laws.Alike.{same-runs}
-use Rattle.messages.proofs.Laws.Buffer.{lent, part, copy-stands}
+use Rattle.messages.proofs.Laws.Buffer.{lent, part, copy-stands, copy-within, unchanged}
 use Rattle.messages.proofs.Laws.Walk.{head-number, one-part, two-parts, some-node}
 use Rattle.messages.proofs.Laws.Normal.{by-head, project-other, crypt-other, crypt-undoes, normal-proj, normal-binary}
 
@@ -137,7 +138,7 @@ module _ {m : List ℕ} where
       pub projection : {c : ℕ} → c ≡ partsOf kind → c ≡ 1 → Projects m kind from end → Survives m mid from end
       projection {c} p one q = record { there = only }
         where
-          count : (x : Message) → m ≡ encodeMessage x → partCount x ≡ 1
+          count : (x : Message) → m ≡ encodeMessage x → length (inner x) ≡ 1
           count x e = sym (head-parts x) ∙ ap partsOf (sym (head-number x (whole x e)) ∙ sym h) ∙ sym p ∙ one
 
           only : (x : Message) → PartsNormal x → m ≡ encodeMessage x → mid ≡ firstEnd x
@@ -198,8 +199,8 @@ module _ {m : List ℕ} {mid from end : ℕ} (s : Survives m mid from end) where
         rw zero-add at (copy-stands m 0 from (end - from) p (omega arith) (omega arith) (rw size at q));
   }
 
-  pub as-long : {after : List ℕ} → from ≤ end → end ≤ length m → after ≡ paste m 0 (drop from m) (end - from)
-      → length after ≡ length m
-  as-long l h p = rw p (length-paste m 0 (drop from m) (end - from) (omega arith) (rw length-drop (omega arith)))
+  pub moved-within : {after : List ℕ} → from ≤ end → end ≤ length m → after ≡ paste m 0 (drop from m) (end - from)
+      → Within 0 (end - from) m after
+  moved-within l h p = rw zero-add at (copy-within m 0 from (end - from) p (omega arith) (omega arith))
 
-pub ruleset fronts = (in-front, moved, as-long)
+pub ruleset fronts = (unchanged, in-front, moved, moved-within)

@@ -15,7 +15,7 @@ use Rattle.reading.specs.Ends.{row, InRow}
 use Rattle.reading.proofs.Laws.Standing.{Walked, alone, starts, done, first-byte, row-append}
 use Rattle.messages.specs.Encoding.{encodeNode, encodeMessage, numberAt, nodeParts, partsOf}
 use Rattle.messages.specs.Run.{SizeOf}
-use Rattle.messages.proofs.Laws.Encoding.{length-encode, headNumber, head-parts, number-read}
+use Rattle.messages.proofs.Laws.Encoding.{length-encode, headNumber, inner, head-parts, number-read}
 
 -- The number of a node, read where it stands.
 pub node-number : {s : List ℕ} {at end : ℕ} (v : ℕ) → Stands s at (encodeNode v) end → numberAt s at ≡ v
@@ -28,17 +28,6 @@ node-number v p =
 pub node-end : {s : List ℕ} {at end : ℕ} (v : ℕ) → Stands s at (encodeNode v) end → end ≡ at + 2
 unfolding encodeNode
 node-end v p = p .size
-
--- The parts of a message.
-abbrev inner : Message → List Message
-inner (leaf a) = []
-inner (proj s m) = m ∷ []
-inner (binary b m n) = m ∷ n ∷ []
-
-inner-length : (m : Message) → length (inner m) ≡ partsOf (headNumber m)
-inner-length (leaf a) = sym (head-parts (leaf a))
-inner-length (proj s m) = sym (head-parts (proj s m))
-inner-length (binary b m n) = sym (head-parts (binary b m n))
 
 pub shape : (m : Message) → encodeMessage m ≡ encodeNode (headNumber m) ++ row encodeMessage (inner m)
 unfolding encodeMessage
@@ -87,7 +76,7 @@ module _ {s : List ℕ} where
       parts (encodeNode (headNumber x)) (row encodeMessage (inner x) ∷ row encodeMessage xs ∷ []) (rw (shape x) at p) in
       record {
         trees = inner x ++ xs;
-        many = rw (node-number (headNumber x) k) (omega (arith, length-append (inner x) xs, inner-length x));
+        many = rw (node-number (headNumber x) k) (omega (arith, length-append (inner x) xs, head-parts x));
         there = rw (row-append, ← node-end (headNumber x) k) (t ⨾ rest);
       }
 

@@ -5,21 +5,21 @@ use mathlib.Core.List.{List, [], _∷_, append-nil}
 use Prim.Native.Nat.{ℕ, _+_, _-_, _*_, _/_, _%_, _≤_, _<_}
 use native.Mathlib.Omega.{arith}
 use lib.ListN.{length, set}
-use lib.Seq.{paste, take-length}
+use lib.Seq.{paste}
 use Rattle.meaning.specs.Messages.Term.{Term, Message, leaf, private, nodes}
 use Rattle.meaning.specs.Messages.Normal.{size}
 use Rattle.meaning.specs.Bytes.Standing.{Stands}
 use Rattle.meaning.specs.Steps.State.{Bound, _▸_, worked}
 use Rattle.meaning.specs.Judging.Limits.{over}
-use Rattle.meaning.proofs.Bytes.Reading.Place.{_⨾_, whole-stands}
+use Rattle.meaning.proofs.Bytes.Reading.Place.{_⨾_}
 use Rattle.messages.specs.Encoding.{encodeMessage}
 use Rattle.messages.specs.Buffer.{Within}
 use Rattle.terms.specs.Bound.{encodeBound, encodeEntry, BoundAt, Binds, BindsRun}
 use Rattle.terms.specs.Work.{TermAt, answerOf, endOf, Works, BindWorked, Reaches}
 use Rattle.terms.specs.declared.work.Worked.{Worked}
-use Rattle.terms.specs.declared.work.Worked.the-variants.{Message as Made, TooLarge}
+use Rattle.terms.specs.declared.work.Worked.the-variants.{Done, TooLarge}
 use Rattle.messages.proofs.Laws.Encoding.{length-encode}
-use Rattle.messages.proofs.Laws.Buffer.{splice, splice-within, splice-stands, kept, kept-above, unchanged, one-after, node-within, node-stands}
+use Rattle.messages.proofs.Laws.Buffer.{kept, kept-above, unchanged, wider, one-after, node-within, node-stands, put-within, put-stands}
 use Rattle.terms.proofs.Laws.Bound.{bound-append}
 use Rattle.terms.proofs.Laws.Work.{said-over, said-small, still-bound}
 
@@ -27,9 +27,9 @@ one-entry : (m : Message) → encodeBound (m ∷ []) ≡ encodeEntry m
 unfolding encodeBound
 one-entry m = append-nil (encodeEntry m)
 
-pub one-more : {s : List ℕ} {base end last : ℕ} (ρ : Bound) (m : Message) → Stands s base (encodeBound ρ) end
+pub bound-more : {s : List ℕ} {base end last : ℕ} (ρ : Bound) (m : Message) → Stands s base (encodeBound ρ) end
     → Stands s end (encodeEntry m) last → Stands s base (encodeBound (ρ ▸ m)) last
-one-more ρ m p q = rw (bound-append ρ (m ∷ []), one-entry m) (p ⨾ q)
+bound-more ρ m p q = rw (bound-append ρ (m ∷ []), one-entry m) (p ⨾ q)
 
 -- A private name.
 module _ (s t : List ℕ) (end n : ℕ) {u : List ℕ} (v : t ≡ set (set s end 1) (end + 1) 0)
@@ -52,41 +52,41 @@ module _ (s t : List ℕ) (end n : ℕ) {u : List ℕ} (v : t ≡ set (set s end
         let others = kept {low = end} p (omega arith) (name-within .below) in
         let size = kept {low = end + 2} (node-stands s end 1 v (omega arith)) (omega arith) (leaf-within .below) in
         let run = node-stands t (end + 2) (2 * n + 17) w (omega (arith, size-within .long)) in
-        one-more ρ (leaf (private n)) others (size ⨾ rw four at run);
+        bound-more ρ (leaf (private n)) others (size ⨾ rw four at run);
   }
 
 pub ruleset names = (name-within, name-bound)
 
 -- A message that stands in another slice.
 module _ (x m m₁ : List ℕ) (end : ℕ) {m₂ : List ℕ} (v : m₁ ≡ set (set m end (length x / 2 % 256)) (end + 1) (length x / 2 / 256))
-    (e : m₂ ≡ paste m₁ (end + 2) x (length x)) (h : (end + 2 + length x ≤ length m) × (length x ≤ 510)) where
+    (w : m₂ ≡ paste m₁ (end + 2) x (length x)) (h : (end + 2 + length x ≤ length m) × (length x ≤ 510)) where
   number-within : Within end (end + 2) m m₁
   number-within = node-within m end (length x / 2) v (omega arith)
 
-  pasted : m₂ ≡ splice m₁ (end + 2) x
-  pasted = e ∙ rw take-length
-
-  run-put : Within (end + 2) (end + 2 + length x) m₁ m₂
-  run-put = rw pasted (splice-within m₁ (end + 2) x (omega (arith, number-within .long)))
+  run-within : Within (end + 2) (end + 2 + length x) m₁ m₂
+  run-within = put-within m₁ (end + 2) x w (omega (arith, number-within .long))
 
   pub message-within : Within end (end + 2 + length x) m m₂
-  message-within = one-after number-within run-put (omega arith) (omega arith) (omega arith) (omega arith)
+  message-within = one-after number-within run-within (omega arith) (omega arith) (omega arith) (omega arith)
 
   pub message-bound : BindsRun x m end (end + 2 + length x) m₂
   message-bound = record {
-    exact = λ y f.
-        let size : length x / 2 ≡ nodes y = omega (arith, length-encode y, ap length f) in
-        let number = rw size at (kept {low = end + 2} (node-stands m end (length x / 2) v (omega arith)) (omega arith) (run-put .below)) in
-        let run : Stands m₂ (end + 2) (encodeMessage y) (end + 2 + length x) =
-        rw (pasted, ← f) (splice-stands m₁ (end + 2) x (omega (arith, number-within .long)) (whole-stands x)) in
-        record { exact = λ ρ p. one-more ρ y (kept {low = end} p (omega arith) (message-within .below)) (number ⨾ run) };
+    exact = λ y e. record {
+      exact = λ ρ p.
+          let count : length x / 2 ≡ nodes y = omega (arith, ap length e, length-encode y) in
+          let others = kept {low = end} p (omega arith) (message-within .below) in
+          let size = kept {low = end + 2} (node-stands m end (length x / 2) v (omega arith)) (omega arith) (run-within .below) in
+          let run : Stands m₂ (end + 2) (encodeMessage y) (end + 2 + length x) =
+          rw (← e) (put-stands m₁ (end + 2) x w (omega (arith, number-within .long))) in
+          bound-more ρ y others ((rw count at size) ⨾ run);
+    };
   }
 
 pub ruleset messages = (message-within, message-bound)
 
 -- The message of a term.
 module _ {s m m₁ : List ℕ} {at base end : ℕ} {r : Worked} (f : Works s at 8 m base (end + 2) r m₁) where
-  -- One entry further there is room for the number.
+  -- They are bound below end + 2 too, where the message will start.
   further : {ρ : Bound} → BoundAt m base ρ end → BoundAt m base ρ (end + 2)
   further b = still-bound b (unchanged {low = end} {high = end}) (omega arith) (omega arith)
 
@@ -100,9 +100,9 @@ module _ {s m m₁ : List ℕ} {at base end : ℕ} {r : Worked} (f : Works s at 
     run = λ t ρ p b o. absurd (true≢false (sym (said-over _ _ _ (answered t ρ p b) e) ∙ o));
   }
 
-  pub term-bound : {m₂ : List ℕ} {i last : ℕ} → r ≡ Made i last → Within (end + 2) (end + 2 + 4096) m m₁
+  pub term-bound : {m₂ : List ℕ} {i last : ℕ} → r ≡ Done i last → Within (end + 2) (end + 2 + 4096) m m₁
       → m₂ ≡ set (set m₁ end ((last - end - 2) / 2 % 256)) (end + 1) ((last - end - 2) / 2 / 256)
-      → end + 4098 ≤ length m → BindWorked s at m base end (Made i last) m₂
+      → end + 4098 ≤ length m → BindWorked s at m base end (Done i last) m₂
   term-bound {m₂} {last} e w v h = record {
     answer = λ t ρ p b. sym e ∙ answered t ρ p b;
     run = λ t ρ p b o.
@@ -114,25 +114,24 @@ module _ {s m m₁ : List ℕ} {at base end : ℕ} {r : Worked} (f : Works s at 
         ⨾ kept-above {high = end + 2} (g .run o) (omega arith) (above .above) in
         record {
           exact = λ σ q.
-              one-more σ (worked ρ t)
+              bound-more σ (worked ρ t)
               (kept {low = end} (kept {low = end + 2} q (omega arith) (w .below)) (omega arith) (above .below)) entry;
         };
   }
 
 pub term-large-within : {m m₁ : List ℕ} (end : ℕ) → Within (end + 2) (end + 2 + 4096) m m₁ → Within end (end + 4098) m m₁
-term-large-within end w =
-    one-after w (unchanged {low = end} {high = end}) (omega arith) (omega arith) (omega arith) (omega arith)
+term-large-within end w = wider w (omega arith) (omega arith)
 
 pub term-within : {m m₁ m₂ : List ℕ} (end v : ℕ) → m₂ ≡ set (set m₁ end (v % 256)) (end + 1) (v / 256)
     → Within (end + 2) (end + 2 + 4096) m m₁ → end + 4098 ≤ length m → Within end (end + 4098) m m₂
 term-within {m₁} end v e w h =
     one-after w (node-within m₁ end v e (omega (arith, w .long))) (omega arith) (omega arith) (omega arith) (omega arith)
 
-pub term-reaches : {start left i last : ℕ} {r : Worked} → r ≡ Made i last → Reaches start left r → Reaches start left (Made i last)
-term-reaches e h = rw e at h
+pub done-reaches : {start left i last : ℕ} {r : Worked} → r ≡ Done i last → Reaches start left r → Reaches start left (Done i last)
+done-reaches e h = rw e at h
 
 -- The number of nodes is worked out from where the message ends.
-module _ {r : Worked} {i last : ℕ} (end : ℕ) (e : r ≡ Made i last) (h : Reaches (end + 2) 8 r) where
+module _ {r : Worked} {i last : ℕ} (end : ℕ) (e : r ≡ Done i last) (h : Reaches (end + 2) 8 r) where
   reached : (end + 2 ≤ last) × (last ≤ end + 2 + 510) × (1 ≤ 8)
   reached = h .there i last e
 
@@ -147,4 +146,4 @@ module _ {r : Worked} {i last : ℕ} (end : ℕ) (e : r ≡ Made i last) (h : Re
 
 pub ruleset counts = (end-before, room-between, few-nodes)
 
-pub ruleset terms = (term-large, term-bound, term-large-within, term-within, term-reaches)
+pub ruleset terms = (term-large, term-bound, term-large-within, term-within, done-reaches)

@@ -17,7 +17,7 @@ use Rattle.terms.specs.Bound.{BoundAt}
 use Rattle.terms.specs.Work.{Works}
 use Rattle.terms.specs.Inner.{Reduced, NodeWorked, FirstWorked, Joins}
 use Rattle.terms.specs.declared.work.Worked.{Worked}
-use Rattle.terms.specs.declared.work.Worked.the-variants.{Message as Made, TooLarge}
+use Rattle.terms.specs.declared.work.Worked.the-variants.{Done, TooLarge}
 use Rattle.messages.proofs.Laws.Encoding.{length-encode, side-parts, binary-parts}
 use Rattle.messages.proofs.Laws.Buffer.{kept, node-within, node-stands}
 use Rattle.terms.proofs.Laws.Leaf.{over-large}
@@ -55,16 +55,16 @@ module _ {s m : List ℕ} {at left base start mid kind c : ℕ} (g : c ≡ parts
       two = λ b u v ρ k o q p h. over-large (rw (o, said-over _ _ _ (f .exact v ρ p h .answer) e));
     }
 
-    pub joined : {m₂ : List ℕ} {i end : ℕ} {r : Worked} → r₁ ≡ Made i end → Reduced m₁ start mid end i r m₂
+    pub joined : {m₂ : List ℕ} {i end : ℕ} {r : Worked} → r₁ ≡ Done i end → Reduced m₁ start mid end i r m₂
         → Joins s at left m base start mid kind r m₂
     unfolding over encodeMessage encodeNode
     joined e d = record {
       one = λ t u ρ k o q. absurd (two (g ∙ ap partsOf k ∙ side-parts t));
       two = λ b u v ρ k o q p h.
-          let g = f .exact v ρ p h in
-          let (o₂, next, end) = said-small _ _ _ (g .answer) e in
+          let second = f .exact v ρ p h in
+          let (o₂, next, end) = said-small _ _ _ (second .answer) e in
           rw (← next) (by-reduction (binary b (worked ρ u) (worked ρ v)) d (worked-binary ρ b u v) (rw (o, o₂))
-          (normalForms (written ρ u) .0, normalForms (written ρ v) .0) (kept {low = mid} q (omega arith) (w .below) ⨾ rw end (g .run o₂))
+          (normalForms (written ρ u) .0, normalForms (written ρ v) .0) (kept {low = mid} q (omega arith) (w .below) ⨾ rw end (second .run o₂))
           (omega (arith, q .size, length-encode (worked ρ u))));
     }
 
@@ -94,7 +94,7 @@ module _ {s m m₁ : List ℕ} {at left base start kind : ℕ} {r₁ : Worked} (
     two = λ c u v ρ k p q b. over-large (rw (said-over _ _ _ (f .answer u ρ p b) e));
   }
 
-  pub first-done : {m₂ : List ℕ} {i mid : ℕ} {r : Worked} → r₁ ≡ Made i mid → Joins s i left m₁ base start mid kind r m₂
+  pub first-done : {m₂ : List ℕ} {i mid : ℕ} {r : Worked} → r₁ ≡ Done i mid → Joins s i left m₁ base start mid kind r m₂
       → Within start (start + 512 * (left + 1)) m m₁ → NodeWorked s at left m base start kind r m₂
   first-done {mid} e j w = record {
     one = λ t u ρ k p b.

@@ -15,7 +15,7 @@ use Rattle.messages.specs.Normal.{PartsNormal, firstEnd, Normalised}
 use Rattle.messages.specs.Buffer.{Within}
 use Rattle.terms.specs.Work.{answerOf}
 use Rattle.terms.specs.Inner.{Reduced}
-use Rattle.terms.specs.declared.work.Worked.the-variants as answers
+use Rattle.terms.specs.declared.work.Worked.the-variants.{Done, TooLarge}
 use Rattle.messages.proofs.Laws.Encoding.{length-encode}
 use Rattle.messages.proofs.Laws.Buffer.{part, back-within, back-stands}
 
@@ -29,7 +29,7 @@ module _ {ys : List ℕ} (before : List ℕ) (start mid end : ℕ) {count : ℕ}
       let size : count ≡ 2 * size x = omega (arith, s .size, length-encode (normal x)) in
       (rw size at s, size)
 
-  pub reduced-large : {next : ℕ} {after : List ℕ} → 510 < count → Reduced before start mid end next answers.TooLarge after
+  pub reduced-large : {next : ℕ} {after : List ℕ} → 510 < count → Reduced before start mid end next TooLarge after
   unfolding answerOf
   reduced-large l = record {
     answer = λ x p q f. let (s, c) = its-normal x p q f in rw (lt-ltb 255 (size x) (omega arith));
@@ -42,7 +42,7 @@ module _ {ys : List ℕ} (before : List ℕ) (start mid end : ℕ) {count : ℕ}
     as-long : length ys ≡ end - start
     as-long = l ∙ length-take-le (end - start) (drop start before) (rw length-drop (omega arith))
 
-    pub reduced : {next : ℕ} → count ≤ 510 → Reduced before start mid end next (answers.Message next (start + count)) after
+    pub reduced : {next : ℕ} → count ≤ 510 → Reduced before start mid end next (Done next (start + count)) after
     unfolding answerOf
     reduced c = record {
       answer = λ x p q f. let (s, g) = its-normal x p q f in rw (le-ltb 255 (size x) (omega arith), g);

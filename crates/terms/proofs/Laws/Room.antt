@@ -7,46 +7,46 @@ use lib.ListN.{length, set}
 use Rattle.messages.specs.Buffer.{Within}
 use Rattle.terms.specs.Work.{Reaches}
 use Rattle.terms.specs.declared.work.Worked.{Worked}
-use Rattle.terms.specs.declared.work.Worked.the-variants.{Message as Made}
-use Rattle.messages.proofs.Laws.Buffer.{one-after, unchanged, wider, node-within}
+use Rattle.terms.specs.declared.work.Worked.the-variants.{Done}
+use Rattle.messages.proofs.Laws.Buffer.{one-after, wider, node-within}
 
 -- What one node takes is less than its share.
 module _ {m n : List ℕ} {start left : ℕ} (some : left ≡ 0 → ⊥) where
   pub name-room : Within start (start + 2) m n → Within start (start + 512 * left) m n
-  name-room w = wider w (omega arith)
+  name-room w = wider w (omega arith) (omega arith)
 
   pub variable-room : Within start (start + 510) m n → Within start (start + 512 * left) m n
-  variable-room w = wider w (omega arith)
+  variable-room w = wider w (omega arith) (omega arith)
 
 pub node-room : {m n : List ℕ} {start left : ℕ} → (left ≡ 0 → ⊥) → Within start (start + 512 * (left - 1 + 1)) m n
     → Within start (start + 512 * left) m n
-node-room {left} some w = wider w (omega arith)
+node-room {left} some w = wider w (omega arith) (omega arith)
 
-pub term-reaches : {start left : ℕ} {r : Worked} → (left ≡ 0 → ⊥) → Reaches start 1 r → Reaches start left r
-term-reaches some h = record {
+pub leaf-reaches : {start left : ℕ} {r : Worked} → (left ≡ 0 → ⊥) → Reaches start 1 r → Reaches start left r
+leaf-reaches some h = record {
   there = λ i j e. let (low, high, one) = h .there i j e in (low, high, omega arith);
 }
 
-pub ruleset term-rooms = (name-room, variable-room, node-room, term-reaches)
+pub ruleset term-rooms = (name-room, variable-room, node-room, leaf-reaches)
 
 -- The second part, behind the first one, which ends at mid.
 module _ {m m₁ : List ℕ} (left start mid : ℕ) where
   pub one-within : Within start mid m m₁ → Within start (mid + 512 * left) m m₁
-  one-within w = wider w (omega arith)
+  one-within w = wider w (omega arith) (omega arith)
 
   pub second-within : Within mid (mid + 512 * left) m m₁ → start ≤ mid → Within start (mid + 512 * left) m m₁
-  second-within w l = one-after w (unchanged {low = mid} {high = mid}) (omega arith) l (omega arith) (omega arith)
+  second-within w l = wider w l (omega arith)
 
-  pub joined-within : {m₂ : List ℕ} {r : Worked} {i end : ℕ} → r ≡ Made i end → Reaches mid left r → Within start end m₁ m₂
+  pub joined-within : {m₂ : List ℕ} {r : Worked} {i end : ℕ} → r ≡ Done i end → Reaches mid left r → Within start end m₁ m₂
       → Within mid (mid + 512 * left) m m₁ → start ≤ mid → Within start (mid + 512 * left) m m₂
   joined-within {i} {end} e h v w l =
       let (low, high, some) = h .there i end e in
       one-after w v (omega arith) (omega arith) (omega arith) (omega arith)
 
-pub end-above : {left mid i end : ℕ} {r : Worked} → r ≡ Made i end → Reaches mid left r → mid ≤ end
+pub end-above : {left mid i end : ℕ} {r : Worked} → r ≡ Done i end → Reaches mid left r → mid ≤ end
 end-above {i} {end} e h = h .there i end e .0
 
-pub end-within : {m m₁ : List ℕ} {left mid i end : ℕ} {r : Worked} → r ≡ Made i end → Reaches mid left r
+pub end-within : {m m₁ : List ℕ} {left mid i end : ℕ} {r : Worked} → r ≡ Done i end → Reaches mid left r
     → Within mid (mid + 512 * left) m m₁ → mid + 512 * left ≤ length m → end ≤ length m₁
 end-within {i} {end} e h w room = let (low, high, some) = h .there i end e in omega (arith, w .long)
 
@@ -61,7 +61,7 @@ pub first-within : {m m₁ m₂ : List ℕ} (left start kind : ℕ) → Within (
 first-within {m} left start kind v w room =
     one-after (node-within m start kind w (omega arith)) v (omega arith) (omega arith) (omega arith) (omega arith)
 
-module _ {r : Worked} {i mid : ℕ} (left start : ℕ) (e : r ≡ Made i mid) (h : Reaches (start + 2) left r) where
+module _ {r : Worked} {i mid : ℕ} (left start : ℕ) (e : r ≡ Done i mid) (h : Reaches (start + 2) left r) where
   reached₁ : (start + 2 ≤ mid) × (mid ≤ start + 2 + 510) × (1 ≤ left)
   reached₁ = h .there i mid e
 

@@ -18,8 +18,9 @@ use Rattle.terms.specs.Bound.{BoundAt}
 use Rattle.terms.specs.Work.{TermAt, answerOf, WorkedTo, Works}
 use Rattle.terms.specs.Inner.{NameWorked, VariableWorked, Reduced, NodeWorked}
 use Rattle.terms.specs.declared.work.Worked.{Worked}
-use Rattle.terms.specs.declared.work.Worked.the-variants as answers
+use Rattle.terms.specs.declared.work.Worked.the-variants.{Done, TooLarge}
 use Rattle.messages.proofs.Laws.Buffer.{kept}
+use Rattle.terms.proofs.Laws.Leaf.{done-or-large}
 use Rattle.terms.proofs.Laws.Term.{term-kind, of-name, of-variable, of-proj, of-binary}
 
 -- The bound messages are still there.
@@ -27,28 +28,30 @@ pub still-bound : {m n : List ℕ} {base start low high new : ℕ} {ρ : Bound}
     → BoundAt m base ρ start → Within low high m n → start ≤ low → start ≤ new → BoundAt n base ρ new
 still-bound {low} b w h l = record {
   end = b .end;
-  stands = kept {low = low} (b .stands) (omega (arith, b .below)) (w .below);
+  bound = record {
+    stands = kept {low = low} (b .bound .stands) (omega (arith, b .below)) (w .below);
+    few = b .bound .few;
+    normal = b .bound .normal;
+  };
   below = omega (arith, b .below);
-  few = b .few;
-  normal = b .normal;
 }
 
 -- What an answer says of the term.
 module _ (b : Bool) (next end : ℕ) {r : Worked} (a : r ≡ answerOf b next end) where
-  pub said-over : r ≡ answers.TooLarge → b ≡ true
+  pub said-over : r ≡ TooLarge → b ≡ true
   unfolding answerOf
   said-over e = by-case b (sym a ∙ e)
     where
-      by-case : (b : Bool) → answerOf b next end ≡ answers.TooLarge → b ≡ true
+      by-case : (b : Bool) → answerOf b next end ≡ TooLarge → b ≡ true
       by-case true f = refl
-      by-case false f = absurd (let z : _≡_ {A = ℕ} 0 1 = cc in omega arith)
+      by-case false f = absurd (done-or-large f)
 
-  pub said-small : {i j : ℕ} → r ≡ answers.Message i j → (b ≡ false) × (i ≡ next) × (j ≡ end)
+  pub said-small : {i j : ℕ} → r ≡ Done i j → (b ≡ false) × (i ≡ next) × (j ≡ end)
   unfolding answerOf
   said-small {i} {j} e = by-case b (sym a ∙ e)
     where
-      by-case : (b : Bool) → answerOf b next end ≡ answers.Message i j → (b ≡ false) × (i ≡ next) × (j ≡ end)
-      by-case true f = absurd (let z : _≡_ {A = ℕ} 0 1 = cc in omega arith)
+      by-case : (b : Bool) → answerOf b next end ≡ Done i j → (b ≡ false) × (i ≡ next) × (j ≡ end)
+      by-case true f = absurd (done-or-large (sym f))
       by-case false f = (refl, cc, cc)
 
 -- A node over the normal forms of its parts has the normal form of the whole.

@@ -11,6 +11,6 @@ read-spec = tie.close (tie.spec
     (λ c. search needs)
     (λ c. search needs)
     (λ c. search needs)
-    (λ c. search (needs, fields, c .before .before .before .before .shared-slice-known .given))
+    (λ c. (omega arith, search (needs, fields)))
     (λ c. (omega arith, search (needs, fields)))
     (λ c. (omega arith, search (needs, fields))))

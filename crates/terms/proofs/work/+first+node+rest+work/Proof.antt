@@ -1,8 +1,9 @@
 -- `terms::work::work`, `node`, `first` and `rest` meet their contracts: leaves first, then a node over its parts. The measure is
 -- the number of term nodes left, three steps to a node. Assumes nothing.
+use mathlib.Core.List.{List}
 use Prim.Native.Nat.{ℕ, _+_, _*_, _<_}
 use borrow.Author.Needs.{needs}
-use borrow.Fn.Kinds.{In}
+use borrow.Fn.Kinds.{In, PK}
 use borrow.Fn.PlainCycle.{Measures, is, falls, and}
 use Rattle.messages.proofs.Laws.Buffer.{unchanged}
 use Rattle.terms.proofs.Laws.Leaf.{no-reach}
@@ -42,34 +43,17 @@ abbrev μ-rest : Measures 2 rest-kinds.ps ℕ
 abbrev μ-work : Measures 2 work-kinds.ps ℕ
 μ-work κs a = 3 * a .1 .1 .0 + 2
 
-abbrev first-at : ℕ → In 2 first-kinds.ps
-first-at t = and 2 first-kinds.ps (is 2 first-kinds.ps μ-first t) first.Pre
+-- The measure is t, or below t, and what the function requires holds.
+abbrev at : (ps : List (PK 2)) → Measures 2 ps ℕ → In 2 ps → ℕ → In 2 ps
+at ps μ pre t = and 2 ps (is 2 ps μ t) pre
 
-abbrev first-below : ℕ → In 2 first-kinds.ps
-first-below t = and 2 first-kinds.ps (falls 2 first-kinds.ps _<_ μ-first t) first.Pre
-
-abbrev node-at : ℕ → In 2 node-kinds.ps
-node-at t = and 2 node-kinds.ps (is 2 node-kinds.ps μ-node t) node.Pre
-
-abbrev node-below : ℕ → In 2 node-kinds.ps
-node-below t = and 2 node-kinds.ps (falls 2 node-kinds.ps _<_ μ-node t) node.Pre
-
-abbrev rest-at : ℕ → In 2 rest-kinds.ps
-rest-at t = and 2 rest-kinds.ps (is 2 rest-kinds.ps μ-rest t) rest.Pre
-
-abbrev rest-below : ℕ → In 2 rest-kinds.ps
-rest-below t = and 2 rest-kinds.ps (falls 2 rest-kinds.ps _<_ μ-rest t) rest.Pre
-
-abbrev work-at : ℕ → In 2 work-kinds.ps
-work-at t = and 2 work-kinds.ps (is 2 work-kinds.ps μ-work t) work.Pre
-
-abbrev work-below : ℕ → In 2 work-kinds.ps
-work-below t = and 2 work-kinds.ps (falls 2 work-kinds.ps _<_ μ-work t) work.Pre
+abbrev below : (ps : List (PK 2)) → Measures 2 ps ℕ → In 2 ps → ℕ → In 2 ps
+below ps μ pre t = and 2 ps (falls 2 ps _<_ μ t) pre
 
 pub +first+node+rest+work-spec : {M : Type 1} → statement M
 +first+node+rest+work-spec = close μ-first μ-node μ-rest μ-work (λ t. first-lts.spec
-    (write-reads.Asked, write-reads.Learnt, work-below t, work.Post)
-    (first-at t)
+    (write-reads.Asked, write-reads.Learnt, below work-kinds.ps μ-work work.Pre t, work.Post)
+    (at first-kinds.ps μ-first first.Pre t)
     first.Post
     (λ c κs. search needs)
     (λ c. search needs)
@@ -77,8 +61,8 @@ pub +first+node+rest+work-spec : {M : Type 1} → statement M
     (λ c. search needs)
     (λ c. (search (needs, first-within), (search needs, search (needs, behind-kind)))))
     (λ t. node-lts.spec
-    (first-below t, first.Post, rest-below t, rest.Post)
-    (node-at t)
+    (below first-kinds.ps μ-first first.Pre t, first.Post, below rest-kinds.ps μ-rest rest.Pre t, rest.Post)
+    (at node-kinds.ps μ-node node.Pre t)
     node.Post
     (λ c κs. search needs)
     (λ c. search needs)
@@ -89,8 +73,8 @@ pub +first+node+rest+work-spec : {M : Type 1} → statement M
     (λ c. search needs)
     (λ c. (search needs, (no-reach, search (needs, firsts)))))
     (λ t. rest-lts.spec
-    (parts-reads.Asked, parts-reads.Learnt, reduce-reads.Asked, reduce-reads.Learnt, work-below t, work.Post)
-    (rest-at t)
+    (parts-reads.Asked, parts-reads.Learnt, reduce-reads.Asked, reduce-reads.Learnt, below work-kinds.ps μ-work work.Pre t, work.Post)
+    (at rest-kinds.ps μ-rest rest.Pre t)
     rest.Post
     (λ c κs. search needs)
     (λ c κs. search needs)
@@ -111,10 +95,10 @@ pub +first+node+rest+work-spec : {M : Type 1} → statement M
       name-reads.Learnt,
       variable-reads.Asked,
       variable-reads.Learnt,
-      node-below t,
+      below node-kinds.ps μ-node node.Pre t,
       node.Post,
     )
-    (work-at t)
+    (at work-kinds.ps μ-work work.Pre t)
     work.Post
     (λ c. search (needs, unchanged, no-reach, works))
     (λ c. search (needs, unchanged, no-reach, works))
