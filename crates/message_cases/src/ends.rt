@@ -1,6 +1,7 @@
 // The bound messages of a case, and what is asked of the last of them.
 use crate::tell;
 use crate::text;
+use messages::node;
 use terms::bind;
 use terms::work::Worked;
 
@@ -92,10 +93,10 @@ fn stop(why: &[u8], number: usize) -> Taken {
 // The number of a private name: the one that is written, if any, in one byte or in two, the lower one first; else the next.
 fn name_of(bytes: &[u8], next: usize) -> usize {
     if 1 < bytes.len() {
-        return text::wide(bytes[0]) + 256 * text::wide(bytes[1]);
+        return node::wide(bytes[0]) + 256 * node::wide(bytes[1]);
     }
     if 0 < bytes.len() {
-        return text::wide(bytes[0]);
+        return node::wide(bytes[0]);
     }
     next
 }

@@ -1,5 +1,6 @@
 // The text of a line: where a character stands, and the bytes that digits spell.
-ghost use Prim.Native.Nat.{_*_, _≤_, _<_};
+use messages::node;
+ghost use Prim.Native.Nat.{_*_, _≤_};
 ghost use lib.ListN.{length};
 
 // Where the character stands first, from start on, or where the text ends.
@@ -29,13 +30,6 @@ fn digit(c: u8) -> usize {
     }
 }
 
-// A byte as a wider number.
-pub(crate) fn wide(b: u8) -> usize
-    ensures { λ r. ⌜ r < 256 ⌝ }
-{
-    b as usize
-}
-
 // Writes the bytes that the text spells over the zeros at the start of out, and answers how many there are.
 pub(crate) fn spell(text: &[u8], out: &mut [u8]) -> usize
     ensures { λ r. ⌜ r ≤ length (now (out .entry)) ⌝ }
@@ -61,6 +55,6 @@ fn put(out: &mut [u8], digits: usize, d: usize) -> usize
     if out.len() <= at {
         return digits;
     }
-    out[at] = (wide(out[at]) % 16 * 16 + d) as u8;
+    out[at] = (node::wide(out[at]) % 16 * 16 + d) as u8;
     digits + 1
 }

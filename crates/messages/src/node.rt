@@ -13,7 +13,7 @@ pub(crate) const ENC: usize = 5;
 
 pub(crate) const DEC: usize = 6;
 
-// How many parts the kinds have, in the order of their numbers. Every other number is a name's, and a name has none.
+// How many parts the kinds have, in the order of their numbers. Names, whose numbers are larger, have none.
 const KINDS: usize = 8;
 
 const PARTS: [usize; KINDS] = [0, 0, 2, 1, 1, 2, 2, 2];

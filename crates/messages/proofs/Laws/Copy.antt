@@ -36,19 +36,15 @@ module _ (m : List ℕ) (from to count i : ℕ) (apart : (to ≤ from) ⊎ (from
       let reach : i < length (drop from m) = omega (arith, length-drop from m) in
       rw (e, untouched, ← getD-drop from m i 0, add-one) (paste-suc m to (drop from m) i 0 (omega arith) reach)
 
-pub copy-done : {now : List ℕ} (m : List ℕ) (from to count i : ℕ) → now ≡ paste m to (drop from m) i → i ≤ count → count ≤ i
-    → now ≡ paste m to (drop from m) count
-copy-done m from to count i e h l = let all : count ≡ i = omega arith in rw all e
+-- So many bytes are copied when no more are left.
+pub paste-done : {now : List ℕ} (m x : List ℕ) (to n i : ℕ) → now ≡ paste m to x i → i ≤ n → n ≤ i → now ≡ paste m to x n
+paste-done m x to n i e h l = let all : n ≡ i = omega arith in rw all e
 
-pub ruleset copies = (paste-zero, copy-more, copy-done)
+pub ruleset copies = (paste-zero, copy-more, paste-done)
 
 -- A copy of a whole slice.
 pub put-more : {now : List ℕ} (m x : List ℕ) (to i : ℕ) → now ≡ paste m to x i → i < length x → to + length x ≤ length m
     → set now (to + i) (getD x i 0) ≡ paste m to x (i + 1)
 put-more m x to i e h room = rw (e, add-one) (paste-suc m to x i 0 (omega arith) h)
 
-pub put-done : {now : List ℕ} (m x : List ℕ) (to i : ℕ) → now ≡ paste m to x i → i ≤ length x → length x ≤ i
-    → now ≡ paste m to x (length x)
-put-done m x to i e h l = let all : length x ≡ i = omega arith in rw all e
-
-pub ruleset puts = (paste-zero, put-more, put-done)
+pub ruleset puts = (paste-zero, put-more, paste-done)

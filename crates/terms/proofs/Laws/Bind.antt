@@ -4,7 +4,7 @@ use mathlib.Core.Bool.{false, true≢false}
 use mathlib.Core.List.{List, [], _∷_, append-nil}
 use Prim.Native.Nat.{ℕ, _+_, _-_, _*_, _/_, _%_, _≤_, _<_}
 use native.Mathlib.Omega.{arith}
-use lib.ListN.{length, set}
+use lib.ListN.{length, set, take}
 use lib.Seq.{paste}
 use Rattle.meaning.specs.Messages.Term.{Term, Message, leaf, private, nodes}
 use Rattle.meaning.specs.Messages.Normal.{size}
@@ -12,7 +12,7 @@ use Rattle.meaning.specs.Bytes.Standing.{Stands}
 use Rattle.meaning.specs.Steps.State.{Bound, _▸_, worked}
 use Rattle.meaning.specs.Judging.Limits.{over}
 use Rattle.meaning.proofs.Bytes.Reading.Place.{_⨾_}
-use Rattle.messages.specs.Encoding.{encodeMessage}
+use Rattle.messages.specs.Encoding.{encodeNode, encodeMessage}
 use Rattle.messages.specs.Buffer.{Within}
 use Rattle.terms.specs.Bound.{encodeBound, encodeEntry, BoundAt, Binds, BindsRun}
 use Rattle.terms.specs.Work.{TermAt, answerOf, endOf, Works, BindWorked, Reaches}
@@ -31,6 +31,14 @@ pub bound-more : {s : List ℕ} {base end last : ℕ} (ρ : Bound) (m : Message)
     → Stands s end (encodeEntry m) last → Stands s base (encodeBound (ρ ▸ m)) last
 bound-more ρ m p q = rw (bound-append ρ (m ∷ []), one-entry m) (p ⨾ q)
 
+-- A message is bound where the number of its nodes and then its run stand behind the others.
+entry-bound : {before after : List ℕ} {end last : ℕ} (m : Message) → take end after ≡ take end before
+    → Stands after end (encodeNode (nodes m)) (end + 2) → Stands after (end + 2) (encodeMessage m) last
+    → Binds before end m last after
+entry-bound {end} m e number run = record {
+  exact = λ ρ p. bound-more ρ m (kept {low = end} p (omega arith) e) (number ⨾ run);
+}
+
 -- A private name.
 module _ (s t : List ℕ) (end n : ℕ) {u : List ℕ} (v : t ≡ set (set s end 1) (end + 1) 0)
     (w : u ≡ set (set t (end + 2) ((2 * n + 17) % 256)) (end + 2 + 1) ((2 * n + 17) / 256))
@@ -46,14 +54,11 @@ module _ (s t : List ℕ) (end n : ℕ) {u : List ℕ} (v : t ≡ set (set s end
 
   pub name-bound : Binds s end (leaf (private n)) (end + 4) u
   unfolding encodeMessage
-  name-bound = record {
-    exact = λ ρ p.
-        let four : end + 2 + 2 ≡ end + 4 = omega arith in
-        let others = kept {low = end} p (omega arith) (name-within .below) in
-        let size = kept {low = end + 2} (node-stands s end 1 v (omega arith)) (omega arith) (leaf-within .below) in
-        let run = node-stands t (end + 2) (2 * n + 17) w (omega (arith, size-within .long)) in
-        bound-more ρ (leaf (private n)) others (size ⨾ rw four at run);
-  }
+  name-bound =
+      let four : end + 2 + 2 ≡ end + 4 = omega arith in
+      let number = kept {low = end + 2} (node-stands s end 1 v (omega arith)) (omega arith) (leaf-within .below) in
+      let run = node-stands t (end + 2) (2 * n + 17) w (omega (arith, size-within .long)) in
+      entry-bound (leaf (private n)) (name-within .below) number (rw four at run)
 
 pub ruleset names = (name-within, name-bound)
 
@@ -71,20 +76,22 @@ module _ (x m m₁ : List ℕ) (end : ℕ) {m₂ : List ℕ} (v : m₁ ≡ set (
 
   pub message-bound : BindsRun x m end (end + 2 + length x) m₂
   message-bound = record {
-    exact = λ y e. record {
-      exact = λ ρ p.
-          let count : length x / 2 ≡ nodes y = omega (arith, ap length e, length-encode y) in
-          let others = kept {low = end} p (omega arith) (message-within .below) in
-          let size = kept {low = end + 2} (node-stands m end (length x / 2) v (omega arith)) (omega arith) (run-within .below) in
-          let run : Stands m₂ (end + 2) (encodeMessage y) (end + 2 + length x) =
-          rw (← e) (put-stands m₁ (end + 2) x w (omega (arith, number-within .long))) in
-          bound-more ρ y others ((rw count at size) ⨾ run);
-    };
+    exact = λ y e.
+        let count : length x / 2 ≡ nodes y = omega (arith, ap length e, length-encode y) in
+        let number = kept {low = end + 2} (node-stands m end (length x / 2) v (omega arith)) (omega arith) (run-within .below) in
+        let run : Stands m₂ (end + 2) (encodeMessage y) (end + 2 + length x) =
+        rw (← e) (put-stands m₁ (end + 2) x w (omega (arith, number-within .long))) in
+        entry-bound y (message-within .below) (rw count at number) run;
   }
 
 pub ruleset messages = (message-within, message-bound)
 
--- The message of a term.
+-- The message of a term: its run first, and then the number before it.
+pub term-within : {m m₁ m₂ : List ℕ} (end v : ℕ) → m₂ ≡ set (set m₁ end (v % 256)) (end + 1) (v / 256)
+    → Within (end + 2) (end + 2 + 4096) m m₁ → end + 4098 ≤ length m → Within end (end + 4098) m m₂
+term-within {m₁} end v e w h =
+    one-after w (node-within m₁ end v e (omega (arith, w .long))) (omega arith) (omega arith) (omega arith) (omega arith)
+
 module _ {s m m₁ : List ℕ} {at base end : ℕ} {r : Worked} (f : Works s at 8 m base (end + 2) r m₁) where
   -- They are bound below end + 2 too, where the message will start.
   further : {ρ : Bound} → BoundAt m base ρ end → BoundAt m base ρ (end + 2)
@@ -108,24 +115,16 @@ module _ {s m m₁ : List ℕ} {at base end : ℕ} {r : Worked} (f : Works s at 
     run = λ t ρ p b o.
         let g = f .exact t ρ p (further b) in
         let (same, next, ends) = said-small _ _ _ (g .answer) e in
+        let fits : end + 2 ≤ length m₁ = omega (arith, w .long) in
         let size : (last - end - 2) / 2 ≡ nodes (worked ρ t) = omega arith in
-        let above = node-within m₁ end ((last - end - 2) / 2) v (omega (arith, w .long)) in
-        let entry = (rw size at (node-stands m₁ end ((last - end - 2) / 2) v (omega (arith, w .long))))
-        ⨾ kept-above {high = end + 2} (g .run o) (omega arith) (above .above) in
-        record {
-          exact = λ σ q.
-              bound-more σ (worked ρ t)
-              (kept {low = end} (kept {low = end + 2} q (omega arith) (w .below)) (omega arith) (above .below)) entry;
-        };
+        let number = node-stands m₁ end ((last - end - 2) / 2) v fits in
+        let above = node-within m₁ end ((last - end - 2) / 2) v fits .above in
+        entry-bound (worked ρ t) (term-within end ((last - end - 2) / 2) v w h .below) (rw size at number)
+        (kept-above {high = end + 2} (g .run o) (omega arith) above);
   }
 
 pub term-large-within : {m m₁ : List ℕ} (end : ℕ) → Within (end + 2) (end + 2 + 4096) m m₁ → Within end (end + 4098) m m₁
 term-large-within end w = wider w (omega arith) (omega arith)
-
-pub term-within : {m m₁ m₂ : List ℕ} (end v : ℕ) → m₂ ≡ set (set m₁ end (v % 256)) (end + 1) (v / 256)
-    → Within (end + 2) (end + 2 + 4096) m m₁ → end + 4098 ≤ length m → Within end (end + 4098) m m₂
-term-within {m₁} end v e w h =
-    one-after w (node-within m₁ end v e (omega (arith, w .long))) (omega arith) (omega arith) (omega arith) (omega arith)
 
 pub done-reaches : {start left i last : ℕ} {r : Worked} → r ≡ Done i last → Reaches start left r → Reaches start left (Done i last)
 done-reaches e h = rw e at h
