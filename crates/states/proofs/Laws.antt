@@ -1,0 +1,22 @@
+-- The laws by which the functions meet their contracts. Assumes nothing.
+pub mod Process
+pub mod Record
+pub mod Progress
+pub mod Small
+pub mod Course
+pub mod Counting
+pub mod Crowd
+pub mod Settling
+pub mod Located
+pub mod Increasing
+pub mod Block
+pub mod Pairs
+pub mod Joint
+pub mod Room
+pub mod Push
+pub mod Offer
+pub mod Thread
+pub mod Fits
+pub mod Walk
+pub mod Copy
+pub mod Form

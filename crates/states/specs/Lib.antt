@@ -1,0 +1,11 @@
+pub mod Place
+pub mod Room
+pub mod Record
+pub mod Located
+pub mod Joint
+pub mod Machine
+pub mod Walk
+pub mod Settled
+pub mod Inner
+pub mod Theorems
+pub mod Form
