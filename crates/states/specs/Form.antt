@@ -17,7 +17,7 @@ use Rattle.states.specs.Settled.{threadsOf}
 use Rattle.states.specs.declared.state.State as code
 use Rattle.states.specs.declared.form.Formed.{Formed}
 use Rattle.states.specs.declared.form.Formed.the-variants.{At, OverLimit}
-use Rattle.states.specs.declared.walk.Progress.{Progress}
+use Rattle.states.specs.declared.progress.Progress.{Progress}
 
 -- A state stands in the work bytes: the messages of its aliases, then a record for each thread, whose process stands in the model s.
 pub record StateAt (s out : List ℕ) (st : code.State) (S : State.State) : Type 0 where

@@ -1,25 +1,27 @@
--- What the functions inside the walk promise ("Steps"). Assumes nothing.
+-- What the smaller functions of the walk promise ("Steps"). Assumes nothing.
 use mathlib.Core.Path.{_≡_}
-use mathlib.Core.Bool.{Bool, true, false}
-use mathlib.Core.List.{List}
-use Prim.Native.Nat.{ℕ, _+_, _-_, _≤_}
+use mathlib.Core.Bool.{Bool, true, false, _||_}
+use mathlib.Core.List.{List, [], _∷_}
+use Prim.Native.Nat.{ℕ, _+_, _≤_}
 use lib.ListN.{length}
-use Rattle.meaning.specs.Messages.Term.{Term}
+use Rattle.meaning.specs.Messages.Term.{Term, Message}
+use Rattle.meaning.specs.Messages.Normal.{same}
 use Rattle.meaning.specs.Bytes.Process.{Prefix, Process}
 use Rattle.meaning.specs.Bytes.Encoding.{encodeProcess}
 use Rattle.meaning.specs.Bytes.Standing.{Stands}
-use Rattle.meaning.specs.Steps.State.{Bound, Thread}
+use Rattle.meaning.specs.Steps.State.{Bound, worked, Thread, act}
 use Rattle.meaning.specs.Judging.Limits.{over}
+use Rattle.messages.specs.Encoding.{encodeMessage}
+use Rattle.reading.specs.Ends.{ProcessEnd}
 use Rattle.terms.specs.Bound.{BoundTo}
 use Rattle.terms.specs.Work.{TermAt}
-use Rattle.reading.specs.Ends.{ProcessEnd}
-use Rattle.states.specs.Place.{ProcessAt}
+use Rattle.states.specs.Place.{ProcessAt, bodyAt, restAt}
 use Rattle.states.specs.Record.{Standing, boundOf}
-use Rattle.states.specs.Machine.{Going, going, unless, further, named, push, offered, atPrefix, atRepl, opened, go}
-use Rattle.states.specs.Walk.{Shows, ShowsCourse, Ready}
-use Rattle.states.specs.declared.walk.Task.{Task}
-use Rattle.states.specs.declared.walk.Task.the-variants.{Judge, Settle}
-use Rattle.states.specs.declared.walk.Progress.{Progress}
+use Rattle.states.specs.Course.{Going, Course, going, found, further, unless, push}
+use Rattle.states.specs.Machine.{holds, offered, sought}
+use Rattle.states.specs.Walk.{Shows, ShowsCourse, Over, encodeMessages}
+use Rattle.states.specs.declared.task.Quest.{Quest}
+use Rattle.states.specs.declared.progress.Progress.{Progress}
 
 -- The state is as it was, or it begins where it did and ends no earlier.
 pub record SameState (now r : Progress) : Type 0 where
@@ -30,54 +32,98 @@ pub record Extends (now r : Progress) : Type 0 where
   pub start : r .state .start ≡ now .state .start
   pub end : now .state .end ≤ r .state .end
 
--- A limit was met; the next private name is another one. The state is as it was.
+-- A limit was met; a thread was found that hands over nothing. The state is as it was.
 pub record Stopped (now r : Progress) : Type 0 where
+  pub over : Over r
+  pub state : r .state ≡ now .state
+
+pub record Hits (now : Progress) (at k : ℕ) (r : Progress) : Type 0 where
   pub off : r .going ≡ false
+  pub mark : r .mark ≡ at + 1
+  pub next : r .names ≡ k
+  pub sent : r .sent ≡ now .state .end
   pub state : r .state ≡ now .state
 
-pub record Renamed (now : Progress) (next : ℕ) (r : Progress) : Type 0 where
+-- The next private name is another one, if the walk goes on.
+pub record Renamed (now : Progress) (n : ℕ) (r : Progress) : Type 0 where
   pub going : r .going ≡ now .going
-  pub names : r .names ≡ next
   pub state : r .state ≡ now .state
+  pub names : now .going ≡ true → r .names ≡ n
+  pub same : now .going ≡ false → r ≡ now
 
--- The first process that stands at the position, or the one after it.
-pub record Chosen (s : List ℕ) (at : ℕ) (same : Bool) (r : ℕ) : Type 0 where
-  pub first : same ≡ true → r ≡ at
-  pub second : same ≡ false → ProcessEnd s at r
+-- The first process that stands at the position, or the one after it; whether it has the position of a mark in it; where the process that
+-- follows a thread stands.
+pub record Chosen (s : List ℕ) (at : ℕ) (b : Bool) (r : ℕ) : Type 0 where
+  pub first : b ≡ true → r ≡ at
+  pub second : b ≡ false → ProcessEnd s at r
 
--- Whatever thread has its process at the position place and its messages up to the position end, it is written.
+pub record Held (s : List ℕ) (at mark : ℕ) (r : Bool) : Type 0 where
+  pub exact : (P : Process) {next : ℕ} → Stands s at (encodeProcess P) next → r ≡ holds mark at P
+
+pub record Rests (s : List ℕ) (at r : ℕ) : Type 0 where
+  pub exact : (p : Prefix) (P : Process) {next : ℕ} → Stands s at (encodeProcess (Process.act p P)) next → r ≡ restAt at p
+
+-- Whatever thread has its process at the position place and its messages up to the position end, it is written; and so it is after what
+-- else is left of it.
 pub record Pushes (m : List ℕ) (end place : ℕ) (out : List ℕ) (now r : Progress) (after : List ℕ) : Type 0 where
-  pub exact : (s : List ℕ) (t : Thread) (g : Going) → BoundTo m 1024 (boundOf t) end → Standing s (record { place = place; thread = t })
+  pub exact : (s : List ℕ) (t : Thread) (g : Going) → BoundTo m 0 (boundOf t) end → Standing s (record { place = place; thread = t })
       → Shows s out now g → ShowsCourse s after r (push place t g)
 
--- Whatever term stands at the position at, it is worked for its limits.
+pub record Keeps (m : List ℕ) (end place : ℕ) (out : List ℕ) (now r : Progress) (after : List ℕ) : Type 0 where
+  pub exact : (s : List ℕ) (t : Thread) (c : Course) → BoundTo m 0 (boundOf t) end → Standing s (record { place = place; thread = t })
+      → ShowsCourse s out now c → ShowsCourse s after r (further c (push place t))
+
+-- Whatever term stands at the position at, it is worked for its limits. A walk that goes no further is left as it is.
 pub record Judges (s : List ℕ) (at : ℕ) (m : List ℕ) (end : ℕ) (now r : Progress) : Type 0 where
-  pub stopped : now .going ≡ false → r .going ≡ false
-  pub exact : (t : Term) (ρ : Bound) (g : Going) {next : ℕ} (out : List ℕ) → TermAt s at 8 (length ρ) t next → BoundTo m 1024 ρ end
+  pub stopped : Over now → Over r
+  pub exact : (t : Term) (ρ : Bound) (g : Going) {next : ℕ} (out : List ℕ) → TermAt s at 8 (length ρ) t next → BoundTo m 0 ρ end
       → Shows s out now g → ShowsCourse s out r (unless (over ρ t) (going g))
 
--- Whatever thread has its process at the position at, what it offers by itself is worked.
+-- Whatever thread has its process at the position at, what it offers by itself is judged; or it is written first.
 pub record Offers (s : List ℕ) (at : ℕ) (m : List ℕ) (end : ℕ) (now r : Progress) : Type 0 where
   pub exact : (p : Prefix) (P : Process) (ρ : Bound) (g : Going) {left next : ℕ} (out : List ℕ)
-      → ProcessAt s at left (length ρ) (Process.act p P) next → BoundTo m 1024 ρ end → Shows s out now g
+      → ProcessAt s at left (length ρ) (Process.act p P) next → BoundTo m 0 ρ end → Shows s out now g
       → ShowsCourse s out r (offered ρ p P g)
 
--- A thread that acts, and a copy of a repl thread.
-pub record PrefixWalks (s : List ℕ) (at : ℕ) (m : List ℕ) (end : ℕ) (T : Task) (out : List ℕ) (now r : Progress) (after : List ℕ) : Type 0 where
-  pub exact : (p : Prefix) (P : Process) (ρ : Bound) (g : Going) {left : ℕ} → Ready s at left m end T (Process.act p P) ρ g
-      → Shows s out now g → ShowsCourse s after r (atPrefix T at ρ p P g)
+pub record Settles (s : List ℕ) (at : ℕ) (m : List ℕ) (end : ℕ) (out : List ℕ) (now r : Progress) (after : List ℕ) : Type 0 where
+  pub exact : (p : Prefix) (P : Process) (ρ : Bound) (g : Going) {left next : ℕ} → left ≤ 64
+      → ProcessAt s at left (length ρ) (Process.act p P) next → BoundTo m 0 ρ end → Shows s out now g
+      → ShowsCourse s after r (further (push at (act ρ p P) g) (offered ρ p P))
 
-pub record Opens (s : List ℕ) (at left : ℕ) (m : List ℕ) (end opens : ℕ) (out : List ℕ) (now r : Progress) (after : List ℕ) : Type 0 where
-  pub exact : (P : Process) (ρ : Bound) (g : Going) → Ready s at left m end (Judge opens) (Process.repl P) ρ g
-      → Shows s out now g → ShowsCourse s after r (opened (λ U. go P U (at + 1) ρ) opens g)
+-- Two runs are those of one message, or any will do.
+pub record Agrees (any : Bool) (channel label : List ℕ) (r : Bool) : Type 0 where
+  pub exact : (x y : Message) → channel ≡ encodeMessage x → label ≡ encodeMessage y → r ≡ (any || same x y)
 
--- The walk over the process of a repl thread, with the next private name from before given back.
-pub record Returns (s : List ℕ) (at left : ℕ) (m : List ℕ) (end : ℕ) (T : Task) (out : List ℕ) (now : Progress) (before : ℕ) (r : Progress)
-    (after : List ℕ) : Type 0 where
-  pub exact : (P : Process) (ρ : Bound) (g : Going) → Ready s (at + 1) (left - 1) m end T P ρ g → Shows s out now g
-      → ShowsCourse s after r (further (go P T (at + 1) ρ g) (λ h. going (named before h)))
+-- The two messages that stand one after the other in m are handed over.
+pub record Sends (m : List ℕ) (from to at next : ℕ) (out : List ℕ) (now r : Progress) (after : List ℕ) : Type 0 where
+  pub exact : (s : List ℕ) (g : Going) (x y : Message) → Stands m from (encodeMessages (x ∷ y ∷ [])) to → to ≤ from + 1020 → Shows s out now g
+      → ShowsCourse s after r (found at next (x ∷ y ∷ []))
 
--- A repl thread that is written.
-pub record Settles (s : List ℕ) (at left : ℕ) (m : List ℕ) (end : ℕ) (out : List ℕ) (now r : Progress) (after : List ℕ) : Type 0 where
-  pub exact : (P : Process) (ρ : Bound) (g : Going) → Ready s at left m end Settle (Process.repl P) ρ g → Shows s out now g
-      → ShowsCourse s after r (atRepl Settle at ρ P (λ U. go P U (at + 1) ρ) g)
+-- The offer of whatever thread stands at the position at: whose channel is the one that is looked for; whose channel is compared; and which
+-- is looked at.
+abbrev pub handedOver : ℕ → ℕ → Bound → Prefix → Course
+handedOver at k ρ (Prefix.output C M) = unless (over ρ M) (found at k (worked ρ C ∷ worked ρ M ∷ []))
+handedOver at k ρ (Prefix.input C) = found at k []
+
+abbrev pub channelOf : Prefix → Term
+channelOf (Prefix.output C M) = C
+channelOf (Prefix.input C) = C
+
+pub record Hands (s : List ℕ) (at next : ℕ) (m : List ℕ) (end last k : ℕ) (out : List ℕ) (now r : Progress) (after : List ℕ) : Type 0 where
+  pub exact : (p : Prefix) (P : Process) (ρ : Bound) (g : Going) {left stop : ℕ}
+      → ProcessAt s at left (length ρ) (Process.act p P) stop → BoundTo m 0 ρ end → next ≡ bodyAt at (channelOf p)
+      → Stands m end (encodeMessage (worked ρ (channelOf p))) last → last ≤ end + 510 → Shows s out now g
+      → ShowsCourse s after r (handedOver at k ρ p)
+
+pub record Channels (s label : List ℕ) (at : ℕ) (m : List ℕ) (end : ℕ) (any : Bool) (k : ℕ) (out : List ℕ) (now r : Progress) (after : List ℕ)
+    : Type 0 where
+  pub exact : (p : Prefix) (P : Process) (x : Message) (ρ : Bound) (g : Going) {left stop : ℕ}
+      → ProcessAt s at left (length ρ) (Process.act p P) stop → BoundTo m 0 ρ end → label ≡ encodeMessage x → Shows s out now g
+      → ShowsCourse s after r (unless (over ρ (channelOf p)) (
+      elim (any || same (worked ρ (channelOf p)) x) [ true ↦ handedOver at k ρ p | false ↦ going g ]))
+
+pub record Seeks (s label : List ℕ) (at : ℕ) (m : List ℕ) (end : ℕ) (q : Quest) (k : ℕ) (out : List ℕ) (now r : Progress) (after : List ℕ)
+    : Type 0 where
+  pub exact : (p : Prefix) (P : Process) (x : Message) (ρ : Bound) (g : Going) {left stop : ℕ}
+      → ProcessAt s at left (length ρ) (Process.act p P) stop → BoundTo m 0 ρ end → label ≡ encodeMessage x → Shows s out now g
+      → ShowsCourse s after r (sought q k x at ρ p g)

@@ -3,7 +3,7 @@ use mathlib.Core.List.{List}
 use Prim.Native.Nat.{ℕ, _+_, _≤_}
 use lib.ListN.{length}
 use Rattle.meaning.specs.Messages.Term.{Term}
-use Rattle.meaning.specs.Bytes.Process.{Process}
+use Rattle.meaning.specs.Bytes.Process.{Prefix, output, input, Process}
 use Rattle.meaning.specs.Bytes.Encoding.{encodeTerm, encodeProcess}
 use Rattle.meaning.specs.Bytes.Nesting.{processTerms, processDepth, variables}
 use Rattle.meaning.specs.Bytes.Scope.{ProcessScoped}
@@ -29,3 +29,8 @@ bodyAt at M = at + 1 + length (encodeTerm M)
 
 abbrev pub rightAt : ℕ → Process → ℕ
 rightAt at P = at + 1 + length (encodeProcess P)
+
+-- Where the process stands that follows an output or an input.
+abbrev pub restAt : ℕ → Prefix → ℕ
+restAt at (output C M) = thenAt at C M
+restAt at (input C) = bodyAt at C

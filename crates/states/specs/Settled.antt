@@ -13,7 +13,7 @@ use Rattle.meaning.specs.Logic.Truth.{anyOf}
 use Rattle.meaning.specs.Judging.Limits.{overSettling, overOffers, threadNodes}
 use Rattle.states.specs.Place.{thenAt, elseAt, bodyAt, rightAt}
 use Rattle.states.specs.Record.{Placed}
-use Rattle.states.specs.Machine.{Going}
+use Rattle.states.specs.Course.{Going}
 
 -- The threads of a process that stands at a position and is settled at the private name n.
 unfoldable pub settledAt : Process → (at : ℕ) → Bound → (n : ℕ) → List Placed

@@ -1,8 +1,8 @@
 // States that are formed, or found to be over a limit ("Steps", the start state; "Judging and its count").
+use crate::progress::Progress;
 use crate::state::State;
+use crate::task::Task;
 use crate::walk;
-use crate::walk::Progress;
-use crate::walk::Task;
 ghost use Prim.Native.Nat.{_+_, _≤_};
 ghost use lib.ListN.{length};
 ghost use Rattle.messages.specs.Buffer.{Within};
@@ -42,15 +42,18 @@ fn finish(done: Progress) -> Formed
 // The start state of the model that the slice s is, written into the work bytes from a position on. The bytes m are for the messages
 // that are bound on the way.
 pub fn start(s: &[u8], m: &mut [u8], out: &mut [u8], begin: usize) -> Formed
-    requires { ⌜ (length (now s) ≤ 4096) × (11774 ≤ length (now m)) × (begin + 2944 ≤ length (now out)) ⌝ }
-    ensures { λ _. ⌜ Within 1024 (length (now (m .entry))) (now (m .entry)) (now (m .exit)) ⌝ }
+    requires { ⌜ (length (now s) ≤ 4096) × (10750 ≤ length (now m)) × (begin + 3964 ≤ length (now out)) ⌝ }
+    ensures { λ _. ⌜ Within 0 (length (now (m .entry))) (now (m .entry)) (now (m .exit)) ⌝ }
     ensures { λ _. ⌜ Within begin (length (now (out .entry))) (now (out .entry)) (now (out .exit)) ⌝ }
     ensures { λ r. ⌜ Starts (now (s .entry)) begin r (now (out .exit)) ⌝ }
 {
+    let label: [u8; 2] = [16, 0];
     let fresh = Progress {
         going: true,
         names: 0,
+        mark: 0,
+        sent: 0,
         state: State::fresh(begin, begin, 0),
     };
-    finish(walk::walk(s, 0, NODES, m, walk::BASE, Task::Settle, out, fresh))
+    finish(walk::walk(s, &label[0..2], 0, NODES, m, 0, Task::Settle, out, fresh))
 }

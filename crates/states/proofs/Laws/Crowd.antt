@@ -14,7 +14,7 @@ use Rattle.meaning.specs.Steps.State.{Thread, act, repl}
 use Rattle.meaning.specs.Judging.Limits.{boundNodes, threadNodes}
 use Rattle.meaning.proofs.Test.{neither}
 use Rattle.states.specs.Record.{Placed, boundOf}
-use Rattle.states.specs.Machine.{Going, going, unless, push}
+use Rattle.states.specs.Course.{Going, going, unless, push}
 use Rattle.states.specs.Settled.{threadsOf}
 
 -- The threads ps are written, and n is the next private name.

@@ -2,6 +2,10 @@
 use mathlib.Core.Path.{_≡_, refl, sym, ap, _∙_}
 use mathlib.Core.Bool.{Bool, true, false, _||_, true≢false}
 use mathlib.Core.List.{List, [], _∷_, _++_}
+use Rattle.meaning.specs.Messages.Term.{leaf, public}
+use Rattle.meaning.specs.Messages.Normal.{normal}
+use Rattle.meaning.proofs.Messages.{normalForms}
+use Rattle.messages.specs.Encoding.{encodeNode, encodeMessage}
 use Prim.Native.Nat.{ℕ, _+_, _*_, _≤_, _<_}
 use native.Mathlib.Omega.{arith}
 use borrow.Author.Tests.{ltb-true, ltb-false}
@@ -23,16 +27,17 @@ use Rattle.terms.specs.Bound.{encodeBound, BoundTo}
 use Rattle.states.specs.Place.{ProcessAt}
 use Rattle.states.specs.Record.{encodeRecords}
 use Rattle.states.specs.Room.{freshState}
-use Rattle.states.specs.Machine.{Going, Course, going, over-limit, unless, go}
-use Rattle.states.specs.Walk.{Shows, ShowsCourse, news, Ready, Walks}
+use Rattle.states.specs.News.{news}
+use Rattle.states.specs.Course.{Going, going, unless}
+use Rattle.states.specs.Walk.{Shows, ShowsCourse, Ready, Walks}
 use Rattle.states.specs.Settled.{settledAt, settledTo, overSettled}
 use Rattle.states.specs.Inner.{Extends}
 use Rattle.states.specs.Form.{StateAt, stateOf, overArrival, Forms, Starts, Finishes}
 use Rattle.states.specs.declared.state.State.{State}
 use Rattle.states.specs.declared.form.Formed.{Formed}
 use Rattle.states.specs.declared.form.Formed.the-variants.{At, OverLimit}
-use Rattle.states.specs.declared.walk.Task.the-variants.{Settle}
-use Rattle.states.specs.declared.walk.Progress.{Progress}
+use Rattle.states.specs.declared.task.Task.the-variants.{Settle}
+use Rattle.states.specs.declared.progress.Progress.{Progress}
 use Rattle.states.proofs.Laws.Settling.{settled-threads, settles}
 
 -- A walk that is done: within the limits, with too many names, or over another limit.
@@ -108,10 +113,10 @@ over-start P =
     (anyOf (λ t. overOffers t (names P [] 0)) ts))
 
 -- The start state, from what the walk has come to.
-module _ {s m out after : List ℕ} {begin : ℕ} {f : State} {w : Progress} {r : Formed} (fresh : f ≡ freshState begin begin 0)
-    (v : Walks s 0 64 m 1024 Settle out (record { going = true; names = 0; state = f }) w after)
-    (x : Extends (record { going = true; names = 0; state = f }) w) (n : Finishes w r) where
-  begins : begin + 2944 ≤ length out → Shows s out (record { going = true; names = 0; state = f }) empty
+module _ {s label m out after : List ℕ} {begin : ℕ} {f : State} {w : Progress} {r : Formed} (fresh : f ≡ freshState begin begin 0)
+    (v : Walks s label 0 64 m 0 Settle out (record { going = true; names = 0; mark = 0; sent = 0; state = f }) w after)
+    (x : Extends (record { going = true; names = 0; mark = 0; sent = 0; state = f }) w) (n : Finishes w r) where
+  begins : begin + 3964 ≤ length out → Shows s out (record { going = true; names = 0; mark = 0; sent = 0; state = f }) empty
   unfolding encodeRecords
   begins h = rw fresh (record {
     on = refl;
@@ -120,20 +125,26 @@ module _ {s m out after : List ℕ} {begin : ℕ} {f : State} {w : Progress} {r 
     nodes = refl;
     records = record { bytes = refl; size = omega arith };
     size = omega arith;
+    few = omega arith;
+    light = omega arith;
     room = h;
     standing = none;
   })
 
-  ready : (P : Process) → IsModel s P → 11774 ≤ length m → Ready s 0 64 m 1024 Settle P [] empty
-  unfolding encodeBound
-  ready P w l = record {
+  ready : (P : Process) → IsModel s P → 10750 ≤ length m → label ≡ 16 ∷ 0 ∷ [] → Ready s label 0 64 m 0 Settle P (leaf (public 0)) [] empty
+  unfolding encodeBound encodeMessage encodeNode normal
+  ready P w l e = record {
     next = length s;
     process = model-stands s P w;
     shallow = omega arith;
     short = w .short;
+    labelled = e;
+    small = rw e (omega arith);
+    normal = normalForms (leaf (public 0)) .0;
     bound = record { stands = record { bytes = refl; size = omega arith }; few = omega arith; normal = none };
     room = omega (arith, w .bound);
-    fits = omega (arith, news-few P, w .short, ap length (w .encoded));
+    fits = record { own = omega (arith, news-few P, w .short, ap length (w .encoded)); others = none };
+    meant = tt;
   }
 
   begun : w .state .aliases ≡ begin
@@ -175,15 +186,15 @@ module _ {s m out after : List ℕ} {begin : ℕ} {f : State} {w : Progress} {r 
   by-limits : (P : Process) (b : Bool) → overSettled P [] empty ≡ b → ShowsCourse s after w (unless b (going (settledTo P 0 [] empty)))
       → Forms s begin (startArrival P) r after
   by-limits P true e off = record {
-    none = λ _. n .over off;
+    none = λ _. n .over (off .off);
     some = λ q. absurd (true≢false (sym e ∙ neither (overSettled P [] empty) (ltb 128 (names P [] 0)) (sym (over-start P) ∙ q) .0));
   }
   by-limits P false e d = by-names P (ltb 128 (names P [] 0)) e refl d
 
-  pub start-formed : 11774 ≤ length m → begin + 2944 ≤ length out → Starts s begin r after
-  start-formed l o = record {
+  pub start-formed : 10750 ≤ length m → label ≡ 16 ∷ 0 ∷ [] → begin + 3964 ≤ length out → Starts s begin r after
+  start-formed l e o = record {
     exact = λ P y. by-limits P (overSettled P [] empty) refl (
-        rw (← settles P 0 [] empty none (omega arith) (omega arith)) (v .walks .exact P [] empty (ready P y l) (begins o))
+        rw (← settles P (leaf (public 0)) 0 [] empty none (omega arith) (omega arith)) (v .walks .exact P (leaf (public 0)) [] empty (ready P y l e) (begins o))
         );
   }
 

@@ -39,7 +39,7 @@ every-of : {A B : Type 0} {Q : B → Type 0} (f : A → B) → ((x : A) → Q (f
 every-of f q [] = none
 every-of f q (x ∷ xs) = q x also every-of f q xs
 
-joints-inside : (P : Process) (at : ℕ) (ρ : Bound) (n k : ℕ) → Every (Inside at P) (joints P at ρ n k)
+pub joints-inside : (P : Process) (at : ℕ) (ρ : Bound) (n k : ℕ) → Every (Inside at P) (joints P at ρ n k)
 unfolding joints
 joints-inside Process.nil at ρ n k = none
 joints-inside (Process.new P) at ρ n k = part-every (new-part at P) (joints-inside P _ _ _ k)

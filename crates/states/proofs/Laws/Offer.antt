@@ -19,18 +19,19 @@ use Rattle.terms.specs.declared.work.Worked.{Worked}
 use Rattle.terms.specs.declared.work.Worked.the-variants.{Done, TooLarge}
 use Rattle.terms.proofs.Laws.Work.{said-over, said-small}
 use Rattle.states.specs.Place.{ProcessAt, bodyAt}
-use Rattle.states.specs.Machine.{Going, going, unless, offered}
+use Rattle.states.specs.Course.{Going, going, unless}
+use Rattle.states.specs.Machine.{offered}
 use Rattle.states.specs.Walk.{Shows, ShowsCourse}
 use Rattle.states.specs.Inner.{Stopped, Judges, Offers}
-use Rattle.states.specs.declared.walk.Progress.{Progress}
+use Rattle.states.specs.declared.progress.Progress.{Progress}
 use Rattle.states.proofs.Laws.Process.{process-kind, of-output, of-input}
 
 -- The messages of a walk are bound at its base.
-pub bound-at : {m : List ℕ} {end : ℕ} {ρ : Bound} → BoundTo m 1024 ρ end → BoundAt m 1024 ρ end
+pub bound-at : {m : List ℕ} {end : ℕ} {ρ : Bound} → BoundTo m 0 ρ end → BoundAt m 0 ρ end
 bound-at {end} b = record { end = end; bound = b; below = omega arith }
 
 -- A term worked above them leaves them bound.
-pub bound-still : {m m₁ : List ℕ} {end high : ℕ} {ρ : Bound} → BoundTo m 1024 ρ end → Within end high m m₁ → BoundTo m₁ 1024 ρ end
+pub bound-still : {m m₁ : List ℕ} {end high : ℕ} {ρ : Bound} → BoundTo m 0 ρ end → Within end high m m₁ → BoundTo m₁ 0 ρ end
 bound-still {m} {m₁} {end} b w = record {
   stands = kept {low = end} (b .stands) (omega arith) (w .below);
   few = b .few;
@@ -38,11 +39,11 @@ bound-still {m} {m₁} {end} b w = record {
 }
 
 -- A term is too large, or not.
-module _ {s m m₁ : List ℕ} {at end : ℕ} {now : Progress} {w : Worked} (f : Works s at 8 m 1024 end w m₁) where
+module _ {s m m₁ : List ℕ} {at end : ℕ} {now : Progress} {w : Worked} (f : Works s at 8 m 0 end w m₁) where
   pub large-term : {r : Progress} → w ≡ TooLarge → Stopped now r → Judges s at m end now r
   large-term e o = record {
-    stopped = λ _. o .off;
-    exact = λ t ρ g out p b d. rw (said-over _ _ _ (f .exact t ρ p (bound-at b) .answer) e) (o .off);
+    stopped = λ _. o .over;
+    exact = λ t ρ g out p b d. rw (said-over _ _ _ (f .exact t ρ p (bound-at b) .answer) e) (o .over);
   }
 
   pub small-term : {i j : ℕ} → w ≡ Done i j → Judges s at m end now now
@@ -61,7 +62,7 @@ module _ {s m : List ℕ} {at end : ℕ} {now first : Progress} {kind : ℕ} (f 
   offers-input z = record { exact = λ p. only p }
     where
       only : (p : Prefix) (P : Process) (ρ : Bound) (g : Going) {left next : ℕ} (out : List ℕ)
-          → ProcessAt s at left (length ρ) (Process.act p P) next → BoundTo m 1024 ρ end → Shows s out now g
+          → ProcessAt s at left (length ρ) (Process.act p P) next → BoundTo m 0 ρ end → Shows s out now g
           → ShowsCourse s out first (offered ρ p P g)
       only (output C M) P ρ g out q b d = absurd (omega (arith, process-kind (Process.act (output C M) P) q .0))
       only (input C) P ρ g out q b d = f .exact C ρ g out (of-input C P q) b d
@@ -71,13 +72,13 @@ module _ {s m : List ℕ} {at end : ℕ} {now first : Progress} {kind : ℕ} (f 
   unfolding offered
   offers-output z {m₁} {high} {i} v l {r} h = record { exact = λ p. only p }
     where
-      after : (C M : Term) (ρ : Bound) (g : Going) (out : List ℕ) {next : ℕ} → TermAt s i 8 (length ρ) M next → BoundTo m₁ 1024 ρ end
+      after : (C M : Term) (ρ : Bound) (g : Going) (out : List ℕ) {next : ℕ} → TermAt s i 8 (length ρ) M next → BoundTo m₁ 0 ρ end
           → (a : Bool) → ShowsCourse s out first (unless a (going g)) → ShowsCourse s out r (unless (a || over ρ M) (going g))
       after C M ρ g out p b true o = h .stopped o
       after C M ρ g out p b false d = h .exact M ρ g out p b d
 
       only : (p : Prefix) (P : Process) (ρ : Bound) (g : Going) {left next : ℕ} (out : List ℕ)
-          → ProcessAt s at left (length ρ) (Process.act p P) next → BoundTo m 1024 ρ end → Shows s out now g
+          → ProcessAt s at left (length ρ) (Process.act p P) next → BoundTo m 0 ρ end → Shows s out now g
           → ShowsCourse s out r (offered ρ p P g)
       only (output C M) P ρ g out q b d =
           let (c, n) = of-output C M P q in

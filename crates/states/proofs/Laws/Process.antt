@@ -2,6 +2,7 @@
 use mathlib.Core.Path.{_≡_, refl, sym, _∙_}
 use mathlib.Core.List.{List, [], _∷_}
 use Prim.Native.Nat.{ℕ, zero, suc, _+_, _-_, _≤_, _<_}
+use native.Mathlib.Nat.{zero-add}
 use native.Mathlib.Omega.{arith}
 use lib.ListN.{length, getD}
 use Rattle.meaning.specs.Messages.Term.{Term}
@@ -174,3 +175,33 @@ module _ {s : List ℕ} {at left scope next : ℕ} where
       let (a, k, (b, m, x)) = parts (3 ∷ []) (encodeTerm C ∷ encodeProcess P ∷ []) (p .stands) in
       let second : b ≡ bodyAt at C = omega (arith, m .size, k .size) in
       record { stands = rw (k .size, second) at m; deep = omega (arith, p .terms); scoped = p .scoped .0 }
+
+  -- What follows an output, and what follows an input.
+  pub after-output : (C M : Term) (P : Process) → ProcessAt s at left scope (act (output C M) P) next
+      → ProcessAt s (thenAt at C M) (left - 1) scope P next
+  unfolding encodeProcess
+  after-output C M P p =
+      let (a, k, (b, m, (c, n, x))) = parts (2 ∷ []) (encodeTerm C ∷ encodeTerm M ∷ encodeProcess P ∷ []) (p .stands) in
+      let third : c ≡ thenAt at C M = omega (arith, n .size, m .size, k .size) in
+      record {
+        stands = rw third at x;
+        deep = omega (arith, p .deep);
+        terms = omega (arith, p .terms);
+        scoped = rw zero-add at (p .scoped .1);
+        few = omega (arith, p .few);
+      }
+
+  pub after-input : (C : Term) (P : Process) → ProcessAt s at left scope (act (input C) P) next
+      → ProcessAt s (bodyAt at C) (left - 1) (suc scope) P next
+  unfolding encodeProcess
+  after-input C P p =
+      let (a, k, (b, m, x)) = parts (3 ∷ []) (encodeTerm C ∷ encodeProcess P ∷ []) (p .stands) in
+      let second : b ≡ bodyAt at C = omega (arith, m .size, k .size) in
+      let one : 1 + scope ≡ suc scope = omega arith in
+      record {
+        stands = rw second at x;
+        deep = omega (arith, p .deep);
+        terms = omega (arith, p .terms);
+        scoped = rw one at (p .scoped .1);
+        few = omega (arith, p .few);
+      }

@@ -7,10 +7,10 @@ use native.Mathlib.Omega.{arith}
 use lib.ListN.{length, drop-of-length-le}
 use Rattle.messages.specs.Buffer.{Within}
 use Rattle.messages.proofs.Laws.Buffer.{kept, one-after}
-use Rattle.states.specs.Machine.{Going, Course, going, over-limit, named}
-use Rattle.states.specs.Walk.{Shows, ShowsCourse}
-use Rattle.states.specs.Inner.{SameState, Extends, Stopped, Renamed}
-use Rattle.states.specs.declared.walk.Progress.{Progress}
+use Rattle.states.specs.Course.{Going, named}
+use Rattle.states.specs.Walk.{Shows}
+use Rattle.states.specs.Inner.{SameState, Extends, Stopped, Renamed, Hits}
+use Rattle.states.specs.declared.progress.Progress.{Progress}
 
 -- A walk that goes on has met no limit.
 pub on-or-off : {s out : List ℕ} {now : Progress} {g : Going} → Shows s out now g → now .going ≡ false → ⊥
@@ -26,6 +26,8 @@ still-shows {now} v w = record {
   nodes = v .nodes;
   records = kept {low = now .state .end} (v .records) (omega arith) (w .below);
   size = v .size;
+  few = v .few;
+  light = v .light;
   room = omega (arith, v .room, w .long);
   standing = v .standing;
 }
@@ -34,11 +36,13 @@ still-shows {now} v w = record {
 pub renamed-shows : {s out : List ℕ} {now r : Progress} {g : Going} (n : ℕ) → Shows s out now g → Renamed now n r → Shows s out r (named n g)
 renamed-shows n v e = record {
   on = e .going ∙ v .on;
-  names = e .names;
+  names = e .names (v .on);
   threads = rw (e .state) (v .threads);
   nodes = rw (e .state) (v .nodes);
   records = rw (e .state) (v .records);
   size = rw (e .state) (v .size);
+  few = v .few;
+  light = v .light;
   room = rw (e .state) (v .room);
   standing = v .standing;
 }
@@ -79,8 +83,11 @@ extends-renamed e f = then-extends e (by-state (f .state))
 pub extends-same : {a b c : Progress} → Extends a b → SameState b c → Extends a c
 extends-same e f = then-extends e (by-state (f .state))
 
+pub hit-extends : {a b : Progress} {at k : ℕ} → Hits a at k b → Extends a b
+hit-extends e = by-state (e .state)
+
 pub ruleset extensions =
-    (unchanged-extends, state-extends, stopped-extends, then-extends, renamed-extends, extends-renamed, extends-same)
+    (hit-extends, unchanged-extends, state-extends, stopped-extends, then-extends, renamed-extends, extends-renamed, extends-same)
 
 -- What is above a position may change, to the end of the slice: after one call, and after two.
 pub to-end : {s t : List ℕ} {low high : ℕ} → Within low high s t → Within low (length s) s t
@@ -99,6 +106,10 @@ to-end-again w v = to-end-twice w v (omega arith)
 pub to-end-after : {s t u : List ℕ} {low high high₁ last : ℕ} (n : ℕ) → Within low high s t → Within last high₁ t u → last ≡ low + n
     → Within low (length s) s u
 to-end-after n w v e = to-end-twice w v (omega arith)
+
+pub to-end-bound : {s t u : List ℕ} {low high high₁ last : ℕ} (n : ℕ) → Within low high s t → Within last high₁ t u → last ≡ low + 2 + n
+    → Within low (length s) s u
+to-end-bound n w v e = to-end-twice w v (omega arith)
 
 -- The same of what is above the records of a state.
 pub records-twice : {s t u : List ℕ} {high high₁ : ℕ} {a b : Progress} → Within (a .state .end) high s t → Within (b .state .end) high₁ t u

@@ -20,10 +20,10 @@ use Rattle.terms.proofs.Theorems.{boundLength}
 use Rattle.states.specs.Place.{ProcessAt}
 use Rattle.states.specs.Record.{Placed, processOf, boundOf, encodeRecord, encodeRecords, Standing, NodesOf, Written}
 use Rattle.states.specs.Room.{Room, Grows}
-use Rattle.states.specs.Machine.{Going, Course, going, over-limit, unless, push}
+use Rattle.states.specs.Course.{Going, Course, going, over-limit, unless, push}
 use Rattle.states.specs.Walk.{Shows, ShowsCourse}
 use Rattle.states.specs.Inner.{Extends, Stopped, Pushes}
-use Rattle.states.specs.declared.walk.Progress.{Progress}
+use Rattle.states.specs.declared.progress.Progress.{Progress}
 use Rattle.states.specs.declared.state.State.{State}
 use Rattle.states.specs.declared.state.Grown.{Grown}
 use Rattle.states.specs.declared.state.Grown.the-variants.{To, Full}
@@ -58,42 +58,42 @@ unfolding encodeRecords
 records-more [] t = append-nil (encodeRecord t)
 records-more (u ∷ ts) t = rw (records-more ts t) (sym (append-assoc (encodeRecord u) (encodeRecords ts) (encodeRecord t)))
 
-module _ (m out : List ℕ) (end place v : ℕ) (now : Progress) (w : NodesOf (take (end - 1024) (drop 1024 m)) v) where
+module _ (m out : List ℕ) (end place v : ℕ) (now : Progress) (w : NodesOf (take (end - 0) m) v) where
   -- The bound messages of the thread: their nodes and their bytes.
-  counted : (ρ : Bound) → BoundTo m 1024 ρ end → v ≡ boundNodes ρ
+  counted : (ρ : Bound) → BoundTo m 0 ρ end → v ≡ boundNodes ρ
   counted ρ b = w .same ρ (part (b .stands))
 
-  sized : (ρ : Bound) → BoundTo m 1024 ρ end → end ≡ 1024 + 2 * (length ρ + boundNodes ρ)
-  sized ρ b = b .stands .size ∙ ap (λ n. 1024 + n) (boundLength ρ)
+  sized : (ρ : Bound) → BoundTo m 0 ρ end → end ≡ 2 * (length ρ + boundNodes ρ)
+  sized ρ b = omega (arith, b .stands .size, boundLength ρ)
 
   few : {s : List ℕ} (t : Thread) → Standing s (record { place = place; thread = t }) → length (boundOf t) ≤ 12
   few t p = omega (arith, p .process .few)
 
   -- Where there is no room, the state would be over a limit: its bytes are never what is short.
-  pub no-room : {b : Grown} {r : Progress} → Grows (now .state) v (end - 1024) (length out) b → b ≡ Full → Stopped now r
+  pub no-room : {b : Grown} {r : Progress} → Grows (now .state) v end (length out) b → b ≡ Full → Stopped now r
       → Pushes m end place out now r out
   no-room grows e o = record {
     exact = λ s t g b p d.
-        let roomy : length (g .threads) < 32 → g .nodes + boundNodes (boundOf t) ≤ 1024 → Room (now .state) v (end - 1024) (length out) =
+        let roomy : length (g .threads) < 32 → g .nodes + boundNodes (boundOf t) ≤ 1024 → Room (now .state) v end (length out) =
         λ h l. record {
           threads = omega (arith, d .threads);
           total = omega (arith, d .nodes, counted (boundOf t) b);
           short = omega (arith, sized (boundOf t) b, few t p);
           bytes = omega (arith, d .size, d .room, d .threads, d .nodes, sized (boundOf t) b, few t p, counted (boundOf t) b);
         } in
-        rw (over-one place t g (λ h l. grows .none e (roomy h l))) (o .off);
+        rw (over-one place t g (λ h l. grows .none e (roomy h l))) (o .over);
   }
 
   -- The record stands behind the others.
-  pub one-more : {b : Grown} {f : State} → Grows (now .state) v (end - 1024) (length out) b → b ≡ To f
-      → {after : List ℕ} → Written (take (end - 1024) (drop 1024 m)) place (now .state .end) after
-      → Within (now .state .end) (now .state .end + 4 + length (take (end - 1024) (drop 1024 m))) out after
-      → Pushes m end place out now (record { going = true; names = now .names; state = f }) after
+  pub one-more : {b : Grown} {f : State} → Grows (now .state) v end (length out) b → b ≡ To f
+      → {after : List ℕ} → Written (take (end - 0) m) place (now .state .end) after
+      → Within (now .state .end) (now .state .end + 4 + length (take (end - 0) m)) out after
+      → Pushes m end place out now (record { going = true; names = now .names; mark = 0; sent = 0; state = f }) after
   one-more {f = f} grows e {after} x k = record {
     exact = λ s t g b p d.
         let room = grows .room f e in
-        let bytes : take (end - 1024) (drop 1024 m) ≡ encodeBound (boundOf t) = part (b .stands) in
-        let size : now .state .end + 4 + length (encodeBound (boundOf t)) ≡ now .state .end + 4 + (end - 1024) =
+        let bytes : take (end - 0) m ≡ encodeBound (boundOf t) = part (b .stands) in
+        let size : now .state .end + 4 + length (encodeBound (boundOf t)) ≡ now .state .end + 4 + end =
         omega (arith, b .stands .size) in
         let longer = length-append (g .threads) (record { place = place; thread = t } ∷ []) in
         rw (
@@ -108,6 +108,8 @@ module _ (m out : List ℕ) (end place v : ℕ) (now : Progress) (w : NodesOf (t
               rw (records-more (g .threads) (record { place = place; thread = t }), ← size)
               (kept {low = now .state .end} (d .records) (omega arith) (k .below) ⨾ (rw bytes at (x .there)));
           size = omega (arith, d .size, sized (boundOf t) b, few t p, longer);
+          few = omega (arith, d .threads, room .threads, longer);
+          light = omega (arith, d .nodes, room .total, counted (boundOf t) b);
           room = omega (arith, d .room, k .long);
           standing = every-joined (d .standing) (p also none);
         });
@@ -116,13 +118,13 @@ module _ (m out : List ℕ) (end place v : ℕ) (now : Progress) (w : NodesOf (t
 pub ruleset pushes = (no-room, one-more)
 
 -- What a call of it writes, and that the state begins where it did and ends no earlier.
-module _ {st f : State} {nodes long : ℕ} (end : ℕ) {r : Grown} (w : Grows st nodes (end - 1024) long r) (y : r ≡ To f) where
+module _ {st f : State} {nodes long : ℕ} (end : ℕ) {r : Grown} (w : Grows st nodes end long r) (y : r ≡ To f) where
   pub push-within : (m : List ℕ) {out after : List ℕ} → length out ≡ long
-      → Within (st .end) (st .end + 4 + length (take (end - 1024) (drop 1024 m))) out after → Within (st .end) (length out) out after
+      → Within (st .end) (st .end + 4 + length (take (end - 0) m)) out after → Within (st .end) (length out) out after
   push-within m e k = wider k (omega arith) (omega (arith, record-room end m w y))
 
 pub pushed-extends : {now : Progress} {f : State} {nodes size long names : ℕ} {r : Grown} → Grows (now .state) nodes size long r → r ≡ To f
-    → Extends now (record { going = true; names = names; state = f })
+    → Extends now (record { going = true; names = names; mark = 0; sent = 0; state = f })
 pushed-extends {f = f} w y = record { aliases = rw (w .state f y); start = rw (w .state f y); end = rw (w .state f y) (omega arith) }
 
 pub ruleset push-bounds = (push-within, pushed-extends)

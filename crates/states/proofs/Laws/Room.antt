@@ -2,7 +2,7 @@
 use mathlib.Core.Path.{_≡_, sym}
 use Prim.Native.Nat.{ℕ, _+_, _-_, _≤_, _<_}
 use native.Mathlib.Omega.{arith}
-use lib.ListN.{length, take, drop, length-take}
+use lib.ListN.{length, take, length-take}
 use mathlib.Core.List.{List}
 use Rattle.states.specs.Room.{Room, Grows}
 use Rattle.states.specs.declared.state.State.{State}
@@ -54,14 +54,14 @@ module _ {st : State} {nodes size long : ℕ} where
 pub ruleset grows = (threads-full, nodes-over, nodes-full, too-long, no-bytes, few-bytes, some-room)
 
 -- What the record of the thread takes.
-module _ {st f : State} {nodes long : ℕ} (end : ℕ) {r : Grown} (m : List ℕ) (w : Grows st nodes (end - 1024) long r) (y : r ≡ To f) where
-  longest : length (take (end - 1024) (drop 1024 m)) ≤ end - 1024
-  longest = omega (arith, length-take (end - 1024) (drop 1024 m))
+module _ {st f : State} {nodes long : ℕ} (end : ℕ) {r : Grown} (m : List ℕ) (w : Grows st nodes end long r) (y : r ≡ To f) where
+  longest : length (take (end - 0) m) ≤ end
+  longest = omega (arith, length-take (end - 0) m)
 
-  pub record-room : st .end + 4 + length (take (end - 1024) (drop 1024 m)) ≤ long
+  pub record-room : st .end + 4 + length (take (end - 0) m) ≤ long
   record-room = omega (arith, longest, w .room f y .bytes)
 
-  pub record-short : length (take (end - 1024) (drop 1024 m)) < 65536
+  pub record-short : length (take (end - 0) m) < 65536
   record-short = omega (arith, longest, w .room f y .short)
 
 pub ruleset record-rooms = (record-room, record-short)

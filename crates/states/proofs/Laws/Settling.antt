@@ -6,7 +6,7 @@ use mathlib.Core.Path.{_≡_, refl, sym, ap₂, _∙_}
 use mathlib.Core.Bool.{Bool, true, false, _||_, or-true}
 use mathlib.Core.List.{List, [], _∷_, _++_, map-append}
 use lib.ListN.{length, length-append, length-map}
-use Rattle.meaning.specs.Messages.Term.{Name, leaf, private}
+use Rattle.meaning.specs.Messages.Term.{Name, leaf, private, Message}
 use Rattle.meaning.specs.Messages.Equation.{Normal}
 use Rattle.meaning.specs.Messages.Normal.{equal}
 use Rattle.meaning.specs.Bytes.Process.{Process}
@@ -21,9 +21,10 @@ use Rattle.meaning.proofs.Steps.Invariant.Settling.{bound-later, worked-below, 
 use Rattle.meaning.proofs.Judging.Alike.{copiesAlike}
 use Rattle.states.specs.Place.{thenAt, elseAt, bodyAt, rightAt}
 use Rattle.states.specs.Record.{Placed}
-use Rattle.states.specs.Machine.{Going, Course, going, further, unless, named, push, offered, opened, atPrefix, atRepl, go}
+use Rattle.states.specs.Course.{Going, Course, going, further, unless, named, push}
+use Rattle.states.specs.Machine.{offered, opened, atPrefix, atRepl, go}
 use Rattle.states.specs.Settled.{settledAt, threadsOf, settledTo, overSettled}
-use Rattle.states.specs.declared.walk.Task.the-variants.{Settle}
+use Rattle.states.specs.declared.task.Task.the-variants.{Judge, Settle}
 use Rattle.states.proofs.Laws.Course.{Ends, ends, stopped, ends-unless, ends-further}
 use Rattle.states.proofs.Laws.Counting.{Comes, comes-unless, comes-further, chosen-all, any-map, judged}
 use Rattle.states.proofs.Laws.Crowd.{grown, crowded, roomy, within, crowded-later, grown-nil, grown-twice, alone, pushed}
@@ -141,39 +142,42 @@ later-alike P Q at {ρ} {n} b =
     let after = bound-later le b in
     (after, any-alike (settled-below Q after .0) (settledAt P at ρ n) (rw (settled-threads P at ρ n) threads))
 
-go-settles : (P : Process) (at : ℕ) (ρ : Bound) (g : Going)
-    → Settles ρ g (go P Settle at ρ g) (overSettling P ρ (g .names)) (settledAt P at ρ (g .names)) (names P ρ (g .names))
+go-settles : (P : Process) (x : Message) (at : ℕ) (ρ : Bound) (g : Going)
+    → Settles ρ g (go P Settle x at ρ g) (overSettling P ρ (g .names)) (settledAt P at ρ (g .names)) (names P ρ (g .names))
 unfolding go names settledAt settle overSettling atPrefix atRepl anyOf
-go-settles Process.nil at ρ g = settles-nil
-go-settles (Process.new P) at ρ g = settles-bound (suc (g .names)) made-below (go-settles P _ _ _)
-go-settles (Process.act p P) at ρ g =
-    settles-thread at (act ρ p P) (offered ρ p P) (λ h. record { is = judged (Process.act p P) (h .names) at ρ h })
-go-settles (Process.if M N P Q) at ρ g =
+go-settles Process.nil x at ρ g = settles-nil
+go-settles (Process.new P) x at ρ g = settles-bound (suc (g .names)) made-below (go-settles P x _ _ _)
+go-settles (Process.act p P) x at ρ g =
+    settles-thread at (act ρ p P) (offered ρ p P) (λ h. record { is = judged (Process.act p P) (h .names) x at ρ h })
+go-settles (Process.if M N P Q) x at ρ g =
     settles-unless (over ρ M || over ρ N) (chosen-all (Settles ρ g) (equal (written ρ M) (written ρ N))
-    (go-settles P (thenAt at M N) ρ g) (go-settles Q (elseAt at M N P) ρ g))
-go-settles (Process.let-in M P) at ρ g =
-    settles-unless (over ρ M) (settles-bound (g .names) (λ b. worked-below b M b) (go-settles P (bodyAt at M) (ρ ▸ worked ρ M) g))
-go-settles (Process.par P Q) at ρ g =
-    settles-both (go Q Settle (rightAt at P) ρ) (later-alike P Q (at + 1)) (go-settles P (at + 1) ρ g) (go-settles Q (rightAt at P) ρ _)
-go-settles (Process.repl P) at ρ g =
-    settles-thread at (repl ρ P) (λ h. opened (λ U. go P U (at + 1) ρ) (h .names) h)
-    (λ h. record { is = judged (Process.repl P) (h .names) at ρ h })
+    (go-settles P x (thenAt at M N) ρ g) (go-settles Q x (elseAt at M N P) ρ g))
+go-settles (Process.let-in M P) x at ρ g =
+    settles-unless (over ρ M) (settles-bound (g .names) (λ b. worked-below b M b) (go-settles P x (bodyAt at M) (ρ ▸ worked ρ M) g))
+go-settles (Process.par P Q) x at ρ g =
+    settles-both (go Q Settle x (rightAt at P) ρ) (later-alike P Q (at + 1)) (go-settles P x (at + 1) ρ g)
+    (go-settles Q x (rightAt at P) ρ _)
+go-settles (Process.repl P) x at ρ g =
+    settles-thread at (repl ρ P) (λ h. opened (λ U. go P U x (at + 1) ρ) (Judge (h .names)) (h .names) h)
+    (λ h. record { is = judged (Process.repl P) (h .names) x at ρ h })
 
 -- A walk that goes on has come to the settled threads, and it is within the limits if it was.
-pub settled-to : (P : Process) (at : ℕ) (ρ : Bound) (g h : Going) → go P Settle at ρ g ≡ going h → h ≡ settledTo P at ρ g
-settled-to P at ρ g h e = rw (settled-threads P at ρ (g .names)) at (go-settles P at ρ g .to .at-end h e .0)
+pub settled-to : (P : Process) (x : Message) (at : ℕ) (ρ : Bound) (g h : Going) → go P Settle x at ρ g ≡ going h
+    → h ≡ settledTo P at ρ g
+settled-to P x at ρ g h e = rw (settled-threads P at ρ (g .names)) at (go-settles P x at ρ g .to .at-end h e .0)
 
-pub settled-within : (P : Process) (at : ℕ) (ρ : Bound) (g h : Going) → go P Settle at ρ g ≡ going h
+pub settled-within : (P : Process) (x : Message) (at : ℕ) (ρ : Bound) (g h : Going) → go P Settle x at ρ g ≡ going h
     → length (g .threads) ≤ 32 → g .nodes ≤ 1024 → (length (h .threads) ≤ 32) × (h .nodes ≤ 1024)
-settled-within P at ρ g h e t n = within h (go-settles P at ρ g .to .at-end h e .1 (roomy g t n))
+settled-within P x at ρ g h e t n = within h (go-settles P x at ρ g .to .at-end h e .1 (roomy g t n))
 
 -- It meets a limit exactly where one of the tests says so.
-pub settles : (P : Process) (at : ℕ) (ρ : Bound) (g : Going) → BoundStored (g .names) ρ → length (g .threads) ≤ 32 → g .nodes ≤ 1024
-    → go P Settle at ρ g ≡ unless (overSettled P ρ g) (going (settledTo P at ρ g))
+pub settles : (P : Process) (x : Message) (at : ℕ) (ρ : Bound) (g : Going) → BoundStored (g .names) ρ
+    → length (g .threads) ≤ 32 → g .nodes ≤ 1024
+    → go P Settle x at ρ g ≡ unless (overSettled P ρ g) (going (settledTo P at ρ g))
 unfolding crowded
-settles P at ρ g b t n =
+settles P x at ρ g b t n =
     let ps = settledAt P at ρ (g .names) in
     let size = length-append (g .threads) ps in
     let mapped = length-map ps (λ t. t .thread) in
     let any = any-map (λ t. overOffers t (names P ρ (g .names))) (λ t. t .thread) ps in
-    rw (size, ← mapped, ← any, settled-threads P at ρ (g .names)) at (go-settles P at ρ g .exact b (roomy g t n) .is)
+    rw (size, ← mapped, ← any, settled-threads P at ρ (g .names)) at (go-settles P x at ρ g .exact b (roomy g t n) .is)

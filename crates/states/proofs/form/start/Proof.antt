@@ -7,6 +7,9 @@ use Rattle.states.proofs.form.start.Tie as tie
 pub start-spec : {M : Type 1} → statement M
 start-spec = tie.close (tie.spec
     (λ c κs. search needs)
+    (λ c. search needs)
+    (λ c. search needs)
+    (λ c. search needs)
     (λ c κs. search needs)
     (λ c κs. search needs)
     (λ c. search needs)

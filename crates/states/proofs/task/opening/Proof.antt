@@ -1,0 +1,24 @@
+-- `states::task::opening` meets its contract, for each task. Assumes nothing.
+use borrow.Author.Needs.{needs}
+use Rattle.states.proofs.Laws.Small.{openings}
+use Rattle.states.proofs.task.opening.Statement.{statement}
+use Rattle.states.proofs.task.opening.Tie as tie
+
+pub opening-spec : {M : Type 1} → statement M
+opening-spec = tie.close (tie.spec
+    (λ c. search needs)
+    (λ c. search needs)
+    (λ c. search needs)
+    (λ c. search needs)
+    (λ c. search needs)
+    (λ c. search needs)
+    (λ c. search needs)
+    (λ c. search needs)
+    (λ c. search (needs, openings))
+    (λ c. search (needs, openings))
+    (λ c. search (needs, openings))
+    (λ c. search (needs, openings))
+    (λ c. search (needs, openings))
+    (λ c. search (needs, openings))
+    (λ c. search (needs, openings))
+    (λ c. search (needs, openings)))

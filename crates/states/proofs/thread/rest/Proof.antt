@@ -1,0 +1,16 @@
+-- `states::thread::rest` meets its contract. Assumes nothing.
+use borrow.Author.Needs.{needs}
+use Rattle.states.proofs.Laws.Seek.{rests}
+use Rattle.states.proofs.thread.rest.Statement.{statement}
+use Rattle.states.proofs.thread.rest.Tie as tie
+
+pub rest-spec : {M : Type 1} → statement M
+rest-spec = tie.close (tie.spec
+    (λ c. search needs)
+    (λ c κs. search needs)
+    (λ c. search needs)
+    (λ c κs. search needs)
+    (λ c. search (needs, rests))
+    (λ c. search needs)
+    (λ c κs. search needs)
+    (λ c. search (needs, rests)))

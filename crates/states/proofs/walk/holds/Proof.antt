@@ -1,0 +1,12 @@
+-- `states::walk::holds` meets its contract. Assumes nothing.
+use borrow.Author.Needs.{needs}
+use Rattle.states.proofs.Laws.Small.{marks}
+use Rattle.states.proofs.walk.holds.Statement.{statement}
+use Rattle.states.proofs.walk.holds.Tie as tie
+
+pub holds-spec : {M : Type 1} → statement M
+holds-spec = tie.close (tie.spec
+    (λ c. search (needs, marks))
+    (λ c κs. search needs)
+    (λ c. search (needs, marks))
+    (λ c. search (needs, marks)))
