@@ -2,14 +2,14 @@
 -- settling, limits and steps is in Theorems. Assumes nothing.
 use Prim.Native.Nat.{ℕ, suc, _+_}
 use mathlib.Core.Bool.{Bool, true, false, not, _&&_, _||_}
-use mathlib.Core.List.{List, [], _∷_}
+use mathlib.Core.List.{[], _∷_}
 use lib.Dec.{ltb, eqb}
 use lib.ListN.{length}
-use Rattle.meaning.specs.Messages.Term.{leaf, private, Term, Message}
+use Rattle.meaning.specs.Messages.Term.{leaf, private, Message}
 use Rattle.meaning.specs.Messages.Normal.{equal, same}
 use Rattle.meaning.specs.Bytes.Process.{Prefix, output, input, Process}
 use Rattle.meaning.specs.Bytes.Encoding.{encodeProcess}
-use Rattle.meaning.specs.Steps.State.{Bound, _▸_, written, worked, Thread, act, repl}
+use Rattle.meaning.specs.Steps.State.{Bound, _▸_, written, worked, act, repl}
 use Rattle.meaning.specs.Judging.Limits.{over, overPrefix}
 use Rattle.states.specs.Place.{thenAt, elseAt, bodyAt, rightAt, restAt}
 use Rattle.states.specs.Course.{Going, Course, going, found, further, unless, named, returned, push}

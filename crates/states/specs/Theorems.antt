@@ -2,7 +2,7 @@
 -- a small first letter. Assumes nothing.
 use Prim.Native.Nat.{ℕ}
 use mathlib.Core.Path.{_≡_}
-use mathlib.Core.List.{List, [], _∷_, _++_, map}
+use mathlib.Core.List.{[], _∷_, _++_, map}
 use Rattle.meaning.specs.Bytes.Process.{Process}
 use Rattle.meaning.specs.Steps.State.{Bound, repl, settle}
 use Rattle.meaning.specs.Steps.Offer.{offer}

@@ -1,16 +1,15 @@
 -- What is done at a repl thread that the walk seeks in, finds, or builds anew ("Steps"): the cases of the walk on trees. Assumes nothing.
-use mathlib.Core.Path.{_≡_, refl}
-use mathlib.Core.Bool.{Bool, true, false, not, _&&_}
-use mathlib.Core.List.{List, []}
+use mathlib.Core.Path.{_≡_}
+use mathlib.Core.Bool.{Bool, true, false}
+use mathlib.Core.List.{[]}
 use Prim.Native.Nat.{ℕ, _+_, _≤_, _<_}
-use native.Mathlib.Omega.{arith}
 use borrow.Author.Tests.{eq-eqb, ne-eqb, lt-ltb, le-ltb}
 use Rattle.meaning.specs.Bytes.Process.{Process}
-use Rattle.meaning.specs.Steps.State.{Bound, repl}
-use Rattle.states.specs.Course.{Going, Course, going, found, further, named, returned, push}
+use Rattle.meaning.specs.Steps.State.{Bound}
+use Rattle.states.specs.Course.{Going, Course, going, found, further, named, returned}
 use Rattle.states.specs.Machine.{holds, opened, sending, taking, soughtIn, builtCopy, builtCopies, atRepl}
 use Rattle.states.specs.declared.task.Task.{Task}
-use Rattle.states.specs.declared.task.Task.the-variants.{Seek, SeekIn, Find, Build, BuildIn}
+use Rattle.states.specs.declared.task.Task.the-variants.{Seek, SeekIn, Find, Build}
 use Rattle.states.specs.declared.task.Quest.{Quest}
 use Rattle.states.specs.declared.task.CopyAt.{CopyAt}
 use Rattle.states.specs.declared.task.Plan.{Plan}

@@ -4,30 +4,26 @@ use mathlib.Core.Bool.{Bool, true, false}
 use mathlib.Core.List.{List, [], _∷_}
 use Prim.Native.Nat.{ℕ, _+_, _-_, _≤_, _<_}
 use native.Mathlib.Omega.{arith}
-use lib.ListN.{length, getD}
 use Rattle.meaning.specs.Messages.Term.{Message}
 use Rattle.meaning.specs.Bytes.Process.{Process}
 use Rattle.meaning.specs.Places.{Every, none, _also_}
 use Rattle.meaning.specs.Steps.State.{Bound, repl}
-use Rattle.messages.specs.Buffer.{Within}
 use Rattle.messages.proofs.Laws.Buffer.{unchanged}
-use Rattle.states.specs.News.{news, laterNews}
-use Rattle.states.specs.Course.{Going, Course, going, over-limit, found, further, named, returned, push}
-use Rattle.states.specs.Machine.{holds, opened, sending, taking, atRepl, go}
-use Rattle.states.specs.Walk.{Shows, ShowsCourse, encodeMessages, NamesFit, MarksMeant, Meant, Ready, Returns}
-use Rattle.states.specs.Walk.{copyOf, onRepl, onTarget, onLast, onCopy, onWay, onTwo, AtRepl, Opens}
-use Rattle.states.specs.Inner.{Renamed, Hits, Held, Keeps}
+use Rattle.states.specs.News.{news}
+use Rattle.states.specs.Course.{Going, going, found, named, returned}
+use Rattle.states.specs.Machine.{opened, go}
+use Rattle.states.specs.Walk.{Shows, ShowsCourse, encodeMessages, NamesFit, Meant, Ready, Returns}
+use Rattle.states.specs.Walk.{copyOf, onRepl, onTarget, onLast, AtRepl, Opens}
+use Rattle.states.specs.Inner.{Renamed, Hits, Held}
 use Rattle.states.specs.declared.task.Task.{Task}
-use Rattle.states.specs.declared.task.Task.the-variants.{Seek, SeekIn, Find, Build, BuildIn}
+use Rattle.states.specs.declared.task.Task.the-variants.{Seek, SeekIn, Find}
 use Rattle.states.specs.declared.task.Quest.{Quest}
 use Rattle.states.specs.declared.task.CopyAt.{CopyAt}
-use Rattle.states.specs.declared.task.Plan.{Plan}
 use Rattle.states.specs.declared.progress.Progress.{Progress}
 use Rattle.states.proofs.Laws.Process.{of-repl}
 use Rattle.states.proofs.Laws.Progress.{renamed-shows}
-use Rattle.states.proofs.Laws.Offer.{bound-still}
 use Rattle.states.proofs.Laws.Fits.{later-fewer}
-use Rattle.states.proofs.Laws.Thread.{no-further, goes-further, stands-there}
+use Rattle.states.proofs.Laws.Thread.{no-further, goes-further}
 use Rattle.states.proofs.Laws.Copy.{copy-ready}
 use Rattle.states.proofs.Laws.Aim as aim
 

@@ -1,20 +1,18 @@
 -- A copy of a repl thread that is opened ("Steps": a repl thread offers what one fresh settled copy offers). Assumes nothing.
-use mathlib.Core.Path.{_≡_, refl, sym, subst, _∙_}
-use mathlib.Core.Bool.{true, false, true≢false}
+use mathlib.Core.Path.{_≡_, refl, subst}
+use mathlib.Core.Bool.{true, false}
 use mathlib.Core.List.{List}
 use Prim.Native.Nat.{ℕ, _+_, _-_, _≤_}
 use native.Mathlib.Omega.{arith}
-use lib.ListN.{length}
 use Rattle.meaning.specs.Messages.Term.{Message}
 use Rattle.meaning.specs.Bytes.Process.{Process}
 use Rattle.meaning.specs.Steps.State.{Bound, repl}
 use Rattle.messages.specs.Buffer.{Within}
 use Rattle.messages.proofs.Laws.Buffer.{unchanged}
 use Rattle.states.specs.News.{news}
-use Rattle.states.specs.Record.{Standing}
-use Rattle.states.specs.Course.{Going, Course, going, over-limit, found, further, named, returned}
+use Rattle.states.specs.Course.{Going, Course, going, over-limit, found, named, returned}
 use Rattle.states.specs.Machine.{opening, opened, go}
-use Rattle.states.specs.Walk.{Shows, ShowsCourse, NamesFit, Meant, Ready, Walks, Returns, Opens, copyOf}
+use Rattle.states.specs.Walk.{Shows, ShowsCourse, NamesFit, Meant, Ready, Walks, Returns, Opens}
 use Rattle.states.specs.Inner.{Renamed}
 use Rattle.states.specs.declared.task.Task.{Task}
 use Rattle.states.specs.declared.task.Task.the-variants.{Count}
@@ -24,7 +22,7 @@ use Rattle.states.proofs.Laws.Progress.{still-shows, renamed-shows}
 use Rattle.states.proofs.Laws.Offer.{bound-still}
 use Rattle.states.proofs.Laws.Fits.{fits-none, fits-opening, meant-opening}
 use Rattle.states.proofs.Laws.Course.{go-fits}
-use Rattle.states.proofs.Laws.Thread.{no-further, goes-further, stands-there}
+use Rattle.states.proofs.Laws.Thread.{no-further, goes-further}
 
 -- The names are given back.
 pub names-back : {s label m out after : List ℕ} {at left end before : ℕ} {T : Task} {now done r : Progress}

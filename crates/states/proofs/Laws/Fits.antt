@@ -1,10 +1,9 @@
 -- Two bytes hold every private name that a walk takes, and marks are those of outputs and inputs: what is left for the parts of a process
 -- ("Steps"). Assumes nothing.
 use mathlib.Core.Path.{_≡_}
-use mathlib.Core.List.{List, [], _∷_}
+use mathlib.Core.List.{List, []}
 use Prim.Native.Nat.{ℕ, _+_, _≤_}
 use native.Mathlib.Omega.{arith}
-use lib.ListN.{getD}
 use Rattle.meaning.specs.Bytes.Process.{Process, nil, new, act, if, let-in, par, repl}
 use Rattle.meaning.specs.Places.{Every, none, _also_}
 use Rattle.meaning.proofs.Every.{every-map}

@@ -6,24 +6,23 @@ use Rattle.meaning.specs.Messages.Term.{leaf, public}
 use Rattle.meaning.specs.Messages.Normal.{normal}
 use Rattle.meaning.proofs.Messages.{normalForms}
 use Rattle.messages.specs.Encoding.{encodeNode, encodeMessage}
-use Prim.Native.Nat.{ℕ, _+_, _*_, _≤_, _<_}
+use Prim.Native.Nat.{ℕ, _+_, _≤_, _<_}
 use native.Mathlib.Omega.{arith}
 use borrow.Author.Tests.{ltb-true, ltb-false}
 use lib.Dec.{ltb}
-use lib.ListN.{length, drop, length-append}
+use lib.ListN.{length, length-append}
 use Rattle.meaning.specs.Bytes.Process.{output, input, Process, nil, new, act, if, let-in, par, repl}
 use Rattle.meaning.specs.Bytes.Encoding.{encodeTerm, encodeProcess}
-use Rattle.meaning.specs.Bytes.Standing.{Stands}
 use Rattle.meaning.specs.Bytes.WellFormed.{IsModel}
-use Rattle.meaning.specs.Places.{Every, none}
-use Rattle.meaning.specs.Steps.State.{Bound, names, settle, start}
+use Rattle.meaning.specs.Places.{none}
+use Rattle.meaning.specs.Steps.State.{names, settle, start}
 use Rattle.meaning.specs.Logic.Truth.{anyOf}
 use Rattle.meaning.specs.Judging.Limits.{boundNodes, threadNodes, overSettling, overOffers, overState}
 use Rattle.meaning.specs.Judging.Visits.{startArrival}
 use Rattle.meaning.proofs.Bytes.Reading.Place.{whole-stands}
 use Rattle.meaning.proofs.Test.{neither}
 use Rattle.messages.specs.Buffer.{Within}
-use Rattle.terms.specs.Bound.{encodeBound, BoundTo}
+use Rattle.terms.specs.Bound.{encodeBound}
 use Rattle.states.specs.Place.{ProcessAt}
 use Rattle.states.specs.Record.{encodeRecords}
 use Rattle.states.specs.Room.{freshState}

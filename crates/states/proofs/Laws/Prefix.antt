@@ -1,21 +1,19 @@
 -- A thread that acts by itself, for each task, and what follows it ("Steps"). Assumes nothing.
-use mathlib.Core.Path.{_≡_, refl, sym, subst, _∙_}
-use mathlib.Core.Bool.{Bool, true, false}
+use mathlib.Core.Path.{_≡_, refl, subst}
+use mathlib.Core.Bool.{Bool}
 use mathlib.Core.List.{List, [], _∷_}
-use Prim.Native.Nat.{ℕ, suc, _+_, _-_, _*_, _≤_, _<_}
+use Prim.Native.Nat.{ℕ, suc, _+_, _-_, _≤_, _<_}
 use native.Mathlib.Omega.{arith}
 use borrow.Author.Tests.{eq-eqb, ne-eqb}
-use lib.ListN.{length, getD, length-append}
-use Rattle.meaning.specs.Messages.Term.{Message, Term}
+use lib.ListN.{length, length-append}
+use Rattle.meaning.specs.Messages.Term.{Message}
 use Rattle.meaning.specs.Bytes.Process.{Prefix, output, input, Process}
-use Rattle.meaning.specs.Bytes.Encoding.{encodeProcess}
-use Rattle.meaning.specs.Bytes.Standing.{Stands}
 use Rattle.meaning.specs.Places.{Every, none, _also_}
 use Rattle.meaning.specs.Steps.State.{Bound, _▸_, act}
 use Rattle.messages.specs.Buffer.{Within}
 use Rattle.terms.specs.Bound.{BindsRun}
 use Rattle.terms.proofs.Theorems.{boundFurther}
-use Rattle.states.specs.Place.{ProcessAt, thenAt, bodyAt, restAt}
+use Rattle.states.specs.Place.{thenAt, bodyAt, restAt}
 use Rattle.states.specs.News.{news}
 use Rattle.states.specs.Course.{Going, Course, named, returned, push}
 use Rattle.states.specs.Machine.{built, atPrefix, go}

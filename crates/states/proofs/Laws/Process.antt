@@ -8,9 +8,6 @@ use lib.ListN.{length, getD}
 use Rattle.meaning.specs.Messages.Term.{Term}
 use Rattle.meaning.specs.Bytes.Process.{Prefix, output, input, Process, nil, new, act, if, let-in, par, repl}
 use Rattle.meaning.specs.Bytes.Encoding.{encodeTerm, encodeProcess}
-use Rattle.meaning.specs.Bytes.Nesting.{prefixTerms}
-use Rattle.meaning.specs.Bytes.Scope.{PrefixScoped}
-use Rattle.meaning.specs.Bytes.Standing.{Stands}
 use Rattle.meaning.proofs.Bytes.Reading.Place.{parts}
 use Rattle.reading.proofs.Laws.Standing.{first-byte, goes-on}
 use Rattle.terms.specs.Work.{TermAt}

@@ -1,14 +1,13 @@
 -- A thread written into a state, or a limit that it meets ("Judging and its count": 32 threads, 1,024 nodes). Assumes nothing.
-use mathlib.Core.Path.{_≡_, refl, sym, ap, _∙_}
+use mathlib.Core.Path.{_≡_, refl, sym}
 use mathlib.Core.Bool.{Bool, true, false, _||_}
 use mathlib.Core.List.{List, [], _∷_, _++_, append-assoc, append-nil}
 use Prim.Native.Nat.{ℕ, suc, _+_, _-_, _*_, _≤_, _<_}
 use native.Mathlib.Omega.{arith}
 use borrow.Author.Tests.{ltb-false, le-ltb}
 use lib.Dec.{ltb}
-use lib.ListN.{length, take, drop, length-append, length-take}
-use Rattle.meaning.specs.Bytes.Standing.{Stands}
-use Rattle.meaning.specs.Places.{Every, none, _also_}
+use lib.ListN.{length, take, length-append}
+use Rattle.meaning.specs.Places.{none, _also_}
 use Rattle.meaning.specs.Steps.State.{Bound, Thread}
 use Rattle.meaning.specs.Judging.Limits.{boundNodes}
 use Rattle.meaning.proofs.Bytes.Reading.Place.{_⨾_}
@@ -17,11 +16,9 @@ use Rattle.messages.specs.Buffer.{Within}
 use Rattle.messages.proofs.Laws.Buffer.{kept, part, wider}
 use Rattle.terms.specs.Bound.{encodeBound, BoundTo}
 use Rattle.terms.proofs.Theorems.{boundLength}
-use Rattle.states.specs.Place.{ProcessAt}
-use Rattle.states.specs.Record.{Placed, processOf, boundOf, encodeRecord, encodeRecords, Standing, NodesOf, Written}
+use Rattle.states.specs.Record.{Placed, boundOf, encodeRecord, encodeRecords, Standing, NodesOf, Written}
 use Rattle.states.specs.Room.{Room, Grows}
 use Rattle.states.specs.Course.{Going, Course, going, over-limit, unless, push}
-use Rattle.states.specs.Walk.{Shows, ShowsCourse}
 use Rattle.states.specs.Inner.{Extends, Stopped, Pushes}
 use Rattle.states.specs.declared.progress.Progress.{Progress}
 use Rattle.states.specs.declared.state.State.{State}

@@ -1,25 +1,21 @@
 -- A repl thread as a step leaves it ("Steps": the rest of the copy stands just before the repl thread): each case of the code. Assumes
 -- nothing.
-use mathlib.Core.Path.{_≡_, refl, sym, _∙_}
+use mathlib.Core.Path.{_≡_, sym, _∙_}
 use mathlib.Core.Bool.{Bool, true, false}
 use mathlib.Core.List.{List, [], _∷_}
-use Prim.Native.Nat.{ℕ, _+_, _≤_}
+use Prim.Native.Nat.{ℕ, _+_}
 use native.Mathlib.Omega.{arith}
 use borrow.Author.Tests.{eq-eqb, ne-eqb}
-use lib.Dec.{eqb}
-use lib.ListN.{length}
 use Rattle.meaning.specs.Messages.Term.{Message}
 use Rattle.meaning.specs.Bytes.Process.{Process}
-use Rattle.meaning.specs.Places.{Every, none, _also_}
+use Rattle.meaning.specs.Places.{Every, _also_}
 use Rattle.meaning.specs.Steps.State.{Bound, repl}
 use Rattle.messages.specs.Buffer.{Within}
-use Rattle.states.specs.News.{news}
-use Rattle.states.specs.Course.{Going, Course, going, further, push}
+use Rattle.states.specs.Course.{Going, going}
 use Rattle.states.specs.Machine.{holds, opened, sending, taking, builtCopies, atRepl}
-use Rattle.states.specs.Walk.{Shows, ShowsCourse, NamesFit, MarksMeant, Ready}
+use Rattle.states.specs.Walk.{NamesFit, MarksMeant}
 use Rattle.states.specs.Walk.{copyOf, onRepl, onCopy, onWay, onTwo, AtRepl, TakesAfter, Opens}
 use Rattle.states.specs.Inner.{Held, Keeps}
-use Rattle.states.specs.declared.task.Task.{Task}
 use Rattle.states.specs.declared.task.Task.the-variants.{Build, BuildIn}
 use Rattle.states.specs.declared.task.CopyAt.{CopyAt}
 use Rattle.states.specs.declared.task.Plan.{Plan}

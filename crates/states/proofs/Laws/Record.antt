@@ -1,16 +1,16 @@
 -- The record of a thread in bytes ("Steps"): the nodes of its messages, and what stands where it was written. Assumes nothing.
-use mathlib.Core.Path.{_≡_, refl, sym, ap, _∙_}
-use mathlib.Core.List.{List, [], _∷_, _++_, append-assoc}
+use mathlib.Core.Path.{_≡_, _∙_}
+use mathlib.Core.List.{List, [], _∷_}
 use Prim.Native.Nat.{ℕ, _+_, _-_, _*_, _/_, _%_, _≤_, _<_}
 use native.Mathlib.Omega.{arith}
 use lib.ListN.{length, set}
 use lib.Seq.{paste}
-use Rattle.meaning.specs.Messages.Term.{Message, nodes}
+use Rattle.meaning.specs.Messages.Term.{nodes}
 use Rattle.meaning.specs.Bytes.Standing.{Stands}
 use Rattle.meaning.specs.Steps.State.{Bound}
 use Rattle.meaning.specs.Judging.Limits.{boundNodes}
 use Rattle.meaning.proofs.Bytes.Reading.Place.{_⨾_, whole-stands}
-use Rattle.messages.specs.Encoding.{encodeNode, encodeMessage, numberAt}
+use Rattle.messages.specs.Encoding.{numberAt}
 use Rattle.messages.specs.Buffer.{Within}
 use Rattle.messages.proofs.Laws.Buffer.{kept, one-after, node-within, node-stands, put-within, put-stands}
 use Rattle.messages.proofs.Laws.Walk.{first-node}

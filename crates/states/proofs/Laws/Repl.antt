@@ -1,35 +1,25 @@
 -- A repl thread, for each task ("Steps"; "Judging and its count"). Assumes nothing.
-use mathlib.Core.Path.{_≡_, refl, sym, subst, _∙_}
-use mathlib.Core.Bool.{Bool, true, false, not, _&&_}
+use mathlib.Core.Path.{_≡_, subst}
+use mathlib.Core.Bool.{true, false}
 use mathlib.Core.List.{List, [], _∷_}
-use Prim.Native.Nat.{ℕ, _+_, _-_, _≤_, _<_}
+use Prim.Native.Nat.{ℕ, _+_, _-_, _≤_}
 use native.Mathlib.Omega.{arith}
-use borrow.Author.Tests.{eq-eqb, ne-eqb, lt-ltb, le-ltb}
-use lib.ListN.{length}
 use Rattle.meaning.specs.Messages.Term.{Message}
 use Rattle.meaning.specs.Bytes.Process.{Process}
 use Rattle.meaning.specs.Places.{Every, none, _also_}
 use Rattle.meaning.specs.Steps.State.{Bound, repl}
-use Rattle.messages.specs.Buffer.{Within}
-use Rattle.messages.proofs.Laws.Buffer.{unchanged}
 use Rattle.states.specs.News.{news}
-use Rattle.states.specs.Course.{Going, Course, going, over-limit, found, further, named, returned, push}
-use Rattle.states.specs.Machine.{holds, opened, sending, taking, soughtIn, builtCopy, builtCopies, atRepl, go}
-use Rattle.states.specs.Walk.{Shows, ShowsCourse, encodeMessages, numbersOf, NamesFit, Meant, Ready, WalksIf, Returns}
-use Rattle.states.specs.Walk.{AtThread, copyOf, onRepl, onTarget, onLast, onCopy, onWay, onTwo, AtRepl, Opens}
-use Rattle.states.specs.Inner.{Renamed, Hits, Held, Pushes, Keeps}
+use Rattle.states.specs.Course.{Going, going, push}
+use Rattle.states.specs.Machine.{opened, atRepl, go}
+use Rattle.states.specs.Walk.{Shows, ShowsCourse, Ready, WalksIf}
+use Rattle.states.specs.Walk.{copyOf, onRepl, AtRepl, Opens}
+use Rattle.states.specs.Inner.{Pushes}
 use Rattle.states.specs.declared.task.Task.{Task}
-use Rattle.states.specs.declared.task.Task.the-variants.{Count, Judge, Settle, Seek, SeekIn, Find, Build, BuildIn}
-use Rattle.states.specs.declared.task.Quest.{Quest}
-use Rattle.states.specs.declared.task.CopyAt.{CopyAt}
-use Rattle.states.specs.declared.task.Plan.{Plan}
+use Rattle.states.specs.declared.task.Task.the-variants.{Count, Judge, Settle}
 use Rattle.states.specs.declared.progress.Progress.{Progress}
-use Rattle.states.proofs.Laws.Process.{shaped, of-repl}
-use Rattle.states.proofs.Laws.Progress.{renamed-shows}
-use Rattle.states.proofs.Laws.Offer.{bound-still}
+use Rattle.states.proofs.Laws.Process.{shaped}
 use Rattle.states.proofs.Laws.Course.{push-next}
 use Rattle.states.proofs.Laws.Thread.{no-further, goes-further, stands-there}
-use Rattle.states.proofs.Laws.Copy.{copy-ready}
 
 module _ {s label m out : List ℕ} {at left end : ℕ} {T : Task} {now : Progress} where
   pub repl-counted : T ≡ Count → WalksIf 7 s label at left m end T out now now out

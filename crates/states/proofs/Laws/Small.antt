@@ -1,16 +1,13 @@
 -- The small functions of the walk: another name, a thread that was found, the task inside a copy, the branch of an if, marks ("Steps").
 -- Assumes nothing.
-use mathlib.Core.Path.{_≡_, refl, sym, ap, _∙_}
-use mathlib.Core.Bool.{Bool, true, false, not, _&&_, true≢false}
+use mathlib.Core.Path.{_≡_, refl, sym, _∙_}
+use mathlib.Core.Bool.{Bool, true, false, true≢false}
 use mathlib.Core.List.{List}
 use Prim.Native.Nat.{ℕ, _+_, _≤_, _<_}
 use native.Mathlib.Omega.{arith}
 use borrow.Author.Tests.{lt-ltb, le-ltb}
-use lib.Dec.{ltb}
 use lib.ListN.{length}
-use Rattle.meaning.specs.Bytes.Process.{Process}
 use Rattle.meaning.specs.Bytes.Encoding.{encodeProcess}
-use Rattle.meaning.specs.Bytes.Standing.{Stands}
 use Rattle.reading.specs.Ends.{ProcessEnd}
 use Rattle.states.specs.Machine.{holds, opening}
 use Rattle.states.specs.Inner.{Renamed, Hits, Chosen, Held}

@@ -13,7 +13,6 @@ use Rattle.terms.specs.Bound.{BoundTo}
 use Rattle.states.specs.Place.{ProcessAt}
 use Rattle.states.specs.Record.{Standing, processOf, boundOf}
 use Rattle.states.specs.Course.{Going, Course, going, over-limit, found, further, push}
-use Rattle.states.specs.Machine.{offered}
 use Rattle.states.specs.Walk.{Shows, ShowsCourse}
 use Rattle.states.specs.Inner.{Pushes, Offers, Settles, Keeps}
 use Rattle.states.specs.declared.progress.Progress.{Progress}

@@ -1,22 +1,22 @@
 -- The walk over a process, by its kind ("Steps": settling goes left to right). Assumes nothing.
 use mathlib.Core.Path.{_≡_, refl, sym, ap, _∙_}
 use mathlib.Core.Bool.{Bool, true, false, not, _||_, true≢false}
-use mathlib.Core.List.{List, [], _∷_, _++_}
-use Prim.Native.Nat.{ℕ, suc, _+_, _-_, _*_, _≤_, _<_}
+use mathlib.Core.List.{List, [], _∷_}
+use Prim.Native.Nat.{ℕ, suc, _+_, _-_, _≤_, _<_}
 use native.Mathlib.Omega.{arith}
 use lib.ListN.{length, getD, length-append}
-use Rattle.meaning.specs.Messages.Term.{Term, Message, Name, leaf, private}
+use Rattle.meaning.specs.Messages.Term.{Term, Message, leaf, private}
 use Rattle.meaning.specs.Messages.Equation.{Normal}
 use Rattle.meaning.specs.Messages.Normal.{normal, equal}
-use Rattle.meaning.specs.Bytes.Process.{Prefix, Process, nil, new, act, if, let-in, par, repl}
+use Rattle.meaning.specs.Bytes.Process.{Process, nil, new, act, if, let-in, par, repl}
 use Rattle.meaning.specs.Bytes.Encoding.{encodeProcess}
 use Rattle.meaning.specs.Bytes.Nesting.{variables}
-use Rattle.meaning.specs.Steps.State.{Bound, _▸_, written, worked, Thread}
+use Rattle.meaning.specs.Steps.State.{Bound, _▸_, written, worked}
 use Rattle.meaning.specs.Judging.Limits.{over}
 use Rattle.meaning.proofs.Messages.{normalForms}
 use Rattle.messages.specs.Buffer.{Within}
 use Rattle.reading.specs.Ends.{ProcessEnd}
-use Rattle.terms.specs.Bound.{BoundTo, Binds}
+use Rattle.terms.specs.Bound.{Binds}
 use Rattle.terms.specs.Work.{BindWorked, Reaches}
 use Rattle.terms.specs.Decide.{Compares, comparedOf}
 use Rattle.terms.specs.declared.work.Worked.{Worked}
@@ -25,16 +25,15 @@ use Rattle.terms.specs.declared.decide.Compared.{Compared}
 use Rattle.terms.specs.declared.decide.Compared.the-variants as compared
 use Rattle.terms.proofs.Laws.Work.{said-over, said-small}
 use Rattle.terms.proofs.Theorems.{boundFurther}
-use Rattle.states.specs.Place.{ProcessAt, thenAt, elseAt, bodyAt, rightAt}
-use Rattle.states.specs.News.{news, laterNews}
-use Rattle.states.specs.Course.{Going, Course, going, over-limit, found, further, unless, named}
+use Rattle.states.specs.Place.{ProcessAt, thenAt, elseAt, rightAt}
+use Rattle.states.specs.Course.{Going, Course, going, over-limit, found, further, named}
 use Rattle.states.specs.Machine.{go}
 use Rattle.states.specs.Walk.{Shows, ShowsCourse, NamesFit, Ready, NodeWalks, WalksIf, Walks, AtPrefix}
 use Rattle.states.specs.Inner.{Stopped, Renamed, Chosen}
 use Rattle.states.specs.declared.task.Task.{Task}
 use Rattle.states.specs.declared.progress.Progress.{Progress}
 use Rattle.states.proofs.Laws.Process.{kindOf, shaped, process-kind, of-new, of-if, of-let, of-par}
-use Rattle.states.proofs.Laws.Progress.{on-or-off, still-shows, renamed-shows}
+use Rattle.states.proofs.Laws.Progress.{renamed-shows}
 use Rattle.states.proofs.Laws.Offer.{bound-at, bound-still}
 use Rattle.states.proofs.Laws.Fits.{fits-part}
 use Rattle.states.proofs.Laws.Course.{go-fits}
