@@ -1,4 +1,4 @@
--- A copy of a repl thread that is opened ("Steps": a repl thread offers what one fresh settled copy offers). Assumes nothing.
+-- A copy of a repl thread that is opened ("Steps"). Assumes nothing.
 use mathlib.Core.Path.{_≡_, refl, subst}
 use mathlib.Core.Bool.{true, false}
 use mathlib.Core.List.{List}

@@ -1,5 +1,4 @@
--- What a thread offers by itself, worked for its limits ("Judging and its count": the channel or message of any of its offers).
--- Assumes nothing.
+-- What a thread offers by itself, worked for its limits ("Judging and its count"). Assumes nothing.
 use mathlib.Core.Path.{_≡_, _∙_}
 use mathlib.Core.Bool.{Bool, true, false, _||_}
 use mathlib.Core.List.{List}
