@@ -1,5 +1,4 @@
--- A repl thread as a step leaves it ("Steps": the rest of the copy stands just before the repl thread): each case of the code. Assumes
--- nothing.
+-- A repl thread as a step leaves it ("Steps"): each case of the code. Assumes nothing.
 use mathlib.Core.Path.{_≡_, sym, _∙_}
 use mathlib.Core.Bool.{Bool, true, false}
 use mathlib.Core.List.{List, [], _∷_}
