@@ -1,15 +1,11 @@
 pub mod Place
 pub mod Room
 pub mod Record
-pub mod Located
-pub mod Joint
 pub mod Course
 pub mod Machine
-pub mod Sought
 pub mod Settled
-pub mod Rebuilt
 pub mod News
 pub mod Walk
 pub mod Inner
 pub mod Form
-pub mod Theorems
+pub mod Stored

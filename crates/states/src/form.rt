@@ -18,7 +18,7 @@ pub enum Formed {
 const NODES: usize = 64;
 
 // What a walk has written, as a state with the private names that it has made.
-fn finish(done: Progress) -> Formed
+pub fn finish(done: Progress) -> Formed
     ensures { λ r. ⌜ Finishes done r ⌝ }
 {
     let going = done.going;

@@ -4,6 +4,7 @@ pub mod form;
 pub mod progress;
 pub mod record;
 pub mod state;
+pub mod stored;
 pub mod task;
 mod thread;
 pub mod walk;

@@ -8,7 +8,7 @@ ghost use Rattle.messages.specs.Buffer.{Within};
 ghost use Rattle.states.specs.Record.{NodesOf, Written, HeadStands};
 
 // The nodes of the bound messages that the slice is.
-pub(crate) fn nodes(b: &[u8]) -> usize
+pub fn nodes(b: &[u8]) -> usize
     ensures { λ r. ⌜ 2 * r ≤ length (now (b .entry)) + 131070 ⌝ }
     ensures { λ r. ⌜ NodesOf (now (b .entry)) r ⌝ }
 {

@@ -178,7 +178,7 @@ later-fewer (Process.par P Q) = omega (arith, later-fewer P, later-fewer Q)
 later-fewer (Process.repl P) = omega arith
 
 -- Settling makes the names of the other ones, each at most once.
-names-fit : (P : Process) (ρ : Bound) (n : ℕ) → names P ρ n + laterNews P ≤ n + news P
+pub names-fit : (P : Process) (ρ : Bound) (n : ℕ) → names P ρ n + laterNews P ≤ n + news P
 unfolding names
 names-fit Process.nil ρ n = omega arith
 names-fit (Process.new P) ρ n = omega (arith, names-fit P (ρ ▸ leaf (private n)) (suc n))

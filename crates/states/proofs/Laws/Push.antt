@@ -1,5 +1,5 @@
 -- A thread written into a state, or a limit that it meets ("Judging and its count": 32 threads, 1,024 nodes). Assumes nothing.
-use mathlib.Core.Path.{_≡_, refl, sym}
+use mathlib.Core.Path.{_≡_, refl, sym, _∙_}
 use mathlib.Core.Bool.{Bool, true, false, _||_}
 use mathlib.Core.List.{List, [], _∷_, _++_, append-assoc, append-nil}
 use Prim.Native.Nat.{ℕ, suc, _+_, _-_, _*_, _≤_, _<_}
@@ -7,6 +7,7 @@ use native.Mathlib.Omega.{arith}
 use borrow.Author.Tests.{ltb-false, le-ltb}
 use lib.Dec.{ltb}
 use lib.ListN.{length, take, length-append}
+use Rattle.meaning.specs.Bytes.Standing.{Stands}
 use Rattle.meaning.specs.Places.{none, _also_}
 use Rattle.meaning.specs.Steps.State.{Bound, Thread}
 use Rattle.meaning.specs.Judging.Limits.{boundNodes}
@@ -19,6 +20,7 @@ use Rattle.terms.proofs.Theorems.{boundLength}
 use Rattle.states.specs.Record.{Placed, boundOf, encodeRecord, encodeRecords, Standing, NodesOf, Written}
 use Rattle.states.specs.Room.{Room, Grows}
 use Rattle.states.specs.Course.{Going, Course, going, over-limit, unless, push}
+use Rattle.states.specs.Walk.{Shows, ShowsCourse}
 use Rattle.states.specs.Inner.{Extends, Stopped, Pushes}
 use Rattle.states.specs.declared.progress.Progress.{Progress}
 use Rattle.states.specs.declared.state.State.{State}
@@ -55,61 +57,71 @@ unfolding encodeRecords
 records-more [] t = append-nil (encodeRecord t)
 records-more (u ∷ ts) t = rw (records-more ts t) (sym (append-assoc (encodeRecord u) (encodeRecords ts) (encodeRecord t)))
 
+-- A thread whose messages have v nodes and take so many bytes: it is one too many, or its record stands behind the others.
+module _ {s out : List ℕ} {now : Progress} {g : Going} {v size : ℕ} (t : Placed) (n : v ≡ boundNodes (boundOf (t .thread)))
+    (l : size ≡ length (encodeBound (boundOf (t .thread)))) (p : Standing s t) (d : Shows s out now g) where
+  few : length (boundOf (t .thread)) ≤ 12
+  few = omega (arith, p .process .few)
+
+  sized : size ≡ 2 * (length (boundOf (t .thread)) + boundNodes (boundOf (t .thread)))
+  sized = l ∙ boundLength (boundOf (t .thread))
+
+  -- Where there is no room, the state would be over a limit: its bytes are never what is short.
+  pub none-more : {b : Grown} → Grows (now .state) v size (length out) b → b ≡ Full → push (t .place) (t .thread) g ≡ over-limit
+  none-more grows e =
+      over-one (t .place) (t .thread) g (λ h o. grows .none e (record {
+        threads = omega (arith, d .threads);
+        total = omega (arith, d .nodes);
+        short = omega (arith, sized, few);
+        bytes = omega (arith, d .size, d .room, d .threads, d .nodes, sized, few);
+      }))
+
+  pub written-more : {b : Grown} {f : State} {after : List ℕ} {high : ℕ} → Grows (now .state) v size (length out) b → b ≡ To f
+      → Stands after (now .state .end) (encodeRecord t) (now .state .end + 4 + size) → Within (now .state .end) high out after
+      → ShowsCourse s after (record { going = true; names = now .names; mark = 0; sent = 0; state = f }) (push (t .place) (t .thread) g)
+  written-more {f = f} grows e x k =
+      let room = grows .room f e in
+      let longer = length-append (g .threads) (t ∷ []) in
+      rw (grows .state f e, room-for (t .place) (t .thread) g (omega (arith, d .threads, room .threads)) (omega (arith, d .nodes, room .total))) (
+      record {
+        on = refl;
+        names = d .names;
+        threads = omega (arith, d .threads, longer);
+        nodes = omega (arith, d .nodes);
+        records = rw (records-more (g .threads) t) (kept {low = now .state .end} (d .records) (omega arith) (k .below) ⨾ x);
+        size = omega (arith, d .size, sized, few, longer);
+        few = omega (arith, d .threads, room .threads, longer);
+        light = omega (arith, d .nodes, room .total);
+        room = omega (arith, d .room, k .long);
+        standing = every-joined (d .standing) (p also none);
+      })
+
+-- The thread that the walk has come to.
 module _ (m out : List ℕ) (end place v : ℕ) (now : Progress) (w : NodesOf (take (end - 0) m) v) where
-  -- The bound messages of the thread: their nodes and their bytes.
   counted : (ρ : Bound) → BoundTo m 0 ρ end → v ≡ boundNodes ρ
   counted ρ b = w .same ρ (part (b .stands))
 
-  sized : (ρ : Bound) → BoundTo m 0 ρ end → end ≡ 2 * (length ρ + boundNodes ρ)
-  sized ρ b = omega (arith, b .stands .size, boundLength ρ)
+  long : (ρ : Bound) → BoundTo m 0 ρ end → end ≡ length (encodeBound ρ)
+  long ρ b = omega (arith, b .stands .size)
 
-  few : {s : List ℕ} (t : Thread) → Standing s (record { place = place; thread = t }) → length (boundOf t) ≤ 12
-  few t p = omega (arith, p .process .few)
-
-  -- Where there is no room, the state would be over a limit: its bytes are never what is short.
   pub no-room : {b : Grown} {r : Progress} → Grows (now .state) v end (length out) b → b ≡ Full → Stopped now r
       → Pushes m end place out now r out
   no-room grows e o = record {
     exact = λ s t g b p d.
-        let roomy : length (g .threads) < 32 → g .nodes + boundNodes (boundOf t) ≤ 1024 → Room (now .state) v end (length out) =
-        λ h l. record {
-          threads = omega (arith, d .threads);
-          total = omega (arith, d .nodes, counted (boundOf t) b);
-          short = omega (arith, sized (boundOf t) b, few t p);
-          bytes = omega (arith, d .size, d .room, d .threads, d .nodes, sized (boundOf t) b, few t p, counted (boundOf t) b);
-        } in
-        rw (over-one place t g (λ h l. grows .none e (roomy h l))) (o .over);
+        let u : Placed = record { place = place; thread = t } in
+        rw (none-more u (counted (boundOf t) b) (long (boundOf t) b) p d grows e) (o .over);
   }
 
-  -- The record stands behind the others.
   pub one-more : {b : Grown} {f : State} → Grows (now .state) v end (length out) b → b ≡ To f
       → {after : List ℕ} → Written (take (end - 0) m) place (now .state .end) after
       → Within (now .state .end) (now .state .end + 4 + length (take (end - 0) m)) out after
       → Pushes m end place out now (record { going = true; names = now .names; mark = 0; sent = 0; state = f }) after
-  one-more {f = f} grows e {after} x k = record {
+  one-more grows e {after} x k = record {
     exact = λ s t g b p d.
-        let room = grows .room f e in
+        let u : Placed = record { place = place; thread = t } in
         let bytes : take (end - 0) m ≡ encodeBound (boundOf t) = part (b .stands) in
-        let size : now .state .end + 4 + length (encodeBound (boundOf t)) ≡ now .state .end + 4 + end =
-        omega (arith, b .stands .size) in
-        let longer = length-append (g .threads) (record { place = place; thread = t } ∷ []) in
-        rw (
-          grows .state f e,
-          room-for place t g (omega (arith, d .threads, room .threads)) (omega (arith, d .nodes, room .total, counted (boundOf t) b)),
-        ) (record {
-          on = refl;
-          names = d .names;
-          threads = omega (arith, d .threads, longer);
-          nodes = omega (arith, d .nodes, counted (boundOf t) b);
-          records =
-              rw (records-more (g .threads) (record { place = place; thread = t }), ← size)
-              (kept {low = now .state .end} (d .records) (omega arith) (k .below) ⨾ (rw bytes at (x .there)));
-          size = omega (arith, d .size, sized (boundOf t) b, few t p, longer);
-          few = omega (arith, d .threads, room .threads, longer);
-          light = omega (arith, d .nodes, room .total, counted (boundOf t) b);
-          room = omega (arith, d .room, k .long);
-          standing = every-joined (d .standing) (p also none);
-        });
+        let size : length (encodeBound (boundOf t)) ≡ end = sym (long (boundOf t) b) in
+        written-more u (counted (boundOf t) b) (long (boundOf t) b) p d grows e (rw (← size) (rw bytes at (x .there))) k;
   }
 
 pub ruleset pushes = (no-room, one-more)

@@ -1,0 +1,57 @@
+-- The offers of a list of threads with the positions of the processes that act, and the list that a step leaves ("Steps"). No two
+-- threads of a process settled once, copies inside it included, have their process at one position, so a position tells which one acts.
+-- Assumes nothing.
+use Prim.Native.Nat.{ℕ, suc, _+_}
+use mathlib.Core.Bool.{Bool, true, false, not, _&&_}
+use mathlib.Core.List.{List, [], _∷_, _++_}
+use lib.Dec.{ltb, eqb}
+use lib.ListN.{length}
+use Rattle.meaning.specs.Messages.Term.{leaf, private}
+use Rattle.meaning.specs.Messages.Normal.{equal}
+use Rattle.meaning.specs.Bytes.Process.{Prefix, Process}
+use Rattle.meaning.specs.Bytes.Encoding.{encodeProcess}
+use Rattle.meaning.specs.Steps.State.{Bound, _▸_, written, worked, Thread, act, repl, names}
+use Rattle.states.specs.Place.{thenAt, elseAt, bodyAt, rightAt}
+
+-- An offer: the position of its process, its bound messages, what it does and what follows, and the next private name, all
+-- copies on the way being opened.
+pub record Acting : Type 0 where
+  pub place : ℕ
+  pub bound : Bound
+  pub prefix : Prefix
+  pub rest : Process
+  pub next : ℕ
+
+-- The offers of the threads of a process that stands at a position and is settled at the private name n, their copies being opened at k.
+unfoldable pub acting : Process → (at : ℕ) → Bound → (n k : ℕ) → List Acting
+acting Process.nil at ρ n k = []
+acting (Process.new P) at ρ n k = acting P (at + 1) (ρ ▸ leaf (private n)) (suc n) k
+acting (Process.act p P) at ρ n k = record { place = at; bound = ρ; prefix = p; rest = P; next = k } ∷ []
+acting (Process.if M N P Q) at ρ n k =
+    elim (equal (written ρ M) (written ρ N)) [ true ↦ acting P (thenAt at M N) ρ n k | false ↦ acting Q (elseAt at M N P) ρ n k ]
+acting (Process.let-in M P) at ρ n k = acting P (bodyAt at M) (ρ ▸ worked ρ M) n k
+acting (Process.par P Q) at ρ n k = acting P (at + 1) ρ n k ++ acting Q (rightAt at P) ρ (names P ρ n) k
+acting (Process.repl P) at ρ n k = acting P (at + 1) ρ k (names P ρ k)
+
+-- The position x is one of the process P, which stands at a position.
+unfoldable pub inside : (x at : ℕ) → Process → Bool
+inside x at P = not (ltb x at) && ltb x (at + length (encodeProcess P))
+
+-- Those threads with the list z in the place of the thread at the position x. If that one is in a copy, the copy is opened at k, and
+-- what is left of it stands before its repl thread.
+unfoldable pub replaced : (x : ℕ) → (z : List Thread) → Process → (at : ℕ) → Bound → (n k : ℕ) → List Thread
+replaced x z Process.nil at ρ n k = []
+replaced x z (Process.new P) at ρ n k = replaced x z P (at + 1) (ρ ▸ leaf (private n)) (suc n) k
+replaced x z (Process.act p P) at ρ n k = elim (eqb at x) [ true ↦ z | false ↦ act ρ p P ∷ [] ]
+replaced x z (Process.if M N P Q) at ρ n k =
+    elim (equal (written ρ M) (written ρ N)) [ true ↦ replaced x z P (thenAt at M N) ρ n k | false ↦ replaced x z Q (elseAt at M N P) ρ n k ]
+replaced x z (Process.let-in M P) at ρ n k = replaced x z P (bodyAt at M) (ρ ▸ worked ρ M) n k
+replaced x z (Process.par P Q) at ρ n k = replaced x z P (at + 1) ρ n k ++ replaced x z Q (rightAt at P) ρ (names P ρ n) k
+replaced x z (Process.repl P) at ρ n k =
+    elim (eqb at x) [
+      | true ↦ z
+      | false ↦ elim (inside x (at + 1) P) [
+        | true ↦ replaced x z P (at + 1) ρ k (names P ρ k) ++ (repl ρ P ∷ [])
+        | false ↦ repl ρ P ∷ []
+      ]
+    ]
