@@ -1,0 +1,182 @@
+-- The next silent step of two threads ("Steps"). Assumes nothing.
+use Prim.Native.Nat.{ℕ, _+_, _≤_, _<_}
+use native.Mathlib.Omega.{arith}
+use native.Mathlib.Nat.{le-refl}
+use mathlib.Core.Path.{_≡_, refl, sym, _∙_, subst}
+use mathlib.Core.Bool.{true, false}
+use mathlib.Core.List.{List, [], _∷_, _++_, map}
+use lib.Dec.{ltb}
+use lib.ListN.{length}
+use borrow.Author.Tests.{ltb-true, lt-ltb}
+use Rattle.meaning.specs.Messages.Term.{leaf, public}
+use Rattle.meaning.specs.Messages.Normal.{normal}
+use Rattle.meaning.specs.Steps.State.{worked}
+use Rattle.meaning.specs.Places.{Every, _also_}
+use Rattle.meaning.specs.Bytes.Standing.{Stands}
+use Rattle.meaning.proofs.Messages.{normalForms}
+use Rattle.meaning.proofs.Every.{every-map}
+use Rattle.messages.specs.Encoding.{encodeNode, encodeMessage}
+use Rattle.states.specs.Record.{Placed, encodeRecords}
+use Rattle.walks.specs.Joint.{messageOf}
+use Rattle.steps.specs.Spot.{spotsFrom, recordAt, offersOf}
+use Rattle.steps.specs.Threads.{Threads}
+use Rattle.steps.specs.Visit.{Labelled}
+use Rattle.steps.specs.Seek.{Sight, Sees, ShowsSight, Seeks}
+use Rattle.steps.specs.Meet.{outputs, inputs, channelOf}
+use Rattle.steps.specs.Silent.{Roomy}
+use Rattle.steps.specs.Step.{Shown, stepOf, runOf}
+use Rattle.steps.specs.Between.{Party, partiesFrom, sendersFrom, offeredTo, meetingOf, takersFrom, sightOf, Ahead, Follows, Sends, Takes}
+use Rattle.steps.specs.declared.seek.Sighting.{Sighting}
+use Rattle.steps.specs.declared.step.Next.{Next}
+use Rattle.steps.specs.declared.step.Next.the-variants.{None, Found}
+use Rattle.steps.specs.declared.step.Label.the-variants.{Silent}
+use Rattle.steps.proofs.Laws.Front.{whole}
+use Rattle.steps.proofs.Laws.BetweenLists.{parties-all}
+use Rattle.steps.proofs.Laws.BetweenOffers.{Sending, sending-all}
+use Rattle.steps.proofs.Laws.BetweenSought.{threads-behind, Seated, spots-seated, first-among, nothing-skipped, sender-skipped}
+
+false-true : false ≡ true → ⊥
+false-true e = let z : _≡_ {A = ℕ} 0 1 = cc in omega arith
+
+-- Whether a sender follows.
+module _ {at x to long place mark : ℕ} where
+  refused : (Ahead at x to long place mark → ⊥) → Follows at x to long place mark false
+  refused f = record { sound = λ e. absurd (false-true e); complete = λ a. absurd (f a) }
+
+  pub follows-none : mark ≡ 0 → Follows at x to long place mark false
+  follows-none e = refused (λ a. omega (arith, a .some))
+
+  pub follows-long : long < mark → Follows at x to long place mark false
+  follows-long l = refused (λ a. omega (arith, a .within))
+
+  pub follows-beyond : to ≤ place → Follows at x to long place mark false
+  follows-beyond l = refused (λ a. omega (arith, a .below))
+
+  pub follows-same : (mark ≡ 0 → ⊥) → mark ≤ long → place < to → place ≡ at → Follows at x to long place mark (ltb x mark)
+  follows-same n l b e = record {
+    sound = λ t. record { some = omega (arith, n); within = l; below = b; later = omega arith; after = λ _. ltb-true x mark t };
+    complete = λ a. lt-ltb x mark (a .after e);
+  }
+
+  pub follows-other : (mark ≡ 0 → ⊥) → mark ≤ long → place < to → (place ≡ at → ⊥) → Follows at x to long place mark (ltb at place)
+  follows-other n l b d = record {
+    sound = λ t. let h = ltb-true at place t in
+        record { some = omega (arith, n); within = l; below = b; later = omega (arith, h); after = λ e. absurd (d e) };
+    complete = λ a. lt-ltb at place (omega (arith, a .later, d));
+  }
+
+pub ruleset followings = (follows-none, follows-long, follows-beyond, follows-same, follows-other)
+
+-- The label of senders does not matter, but it is the run of a message.
+label-zero : Labelled (16 ∷ 0 ∷ []) (leaf (public 0))
+unfolding encodeMessage encodeNode normal
+label-zero = record { same = refl; small = omega arith; normal = normalForms (leaf (public 0)) .0 }
+
+pub sends : {s label : List ℕ} {at k to : ℕ} {m : List ℕ} {x : ℕ} {out : List ℕ} {r : Sighting} {after : List ℕ}
+    → label ≡ 16 ∷ 0 ∷ [] → Seeks s label at to m (outputs x) to k out r after → Sends s at k to m x out r after
+unfolding sendersFrom
+sends {s} {label} {at} {k} {to} {m} {x} {out} {r} {after} e v = record {
+  exact = λ start ls ts h room here.
+      let there : Threads s out (start + length (encodeRecords ls)) k ts to = subst (λ (n : ℕ). Threads s out n k ts to) here h in
+      let labelled : Labelled label (leaf (public 0)) = subst (λ l. Labelled l (leaf (public 0))) (sym e) label-zero in
+      subst (λ (i : Sight). ShowsSight after r i)
+      (first-among (outputs 0) (leaf (public 0)) start k to (λ p. offersOf (p .thread) k) x ls ts at here
+      (every-map (λ p g. nothing-skipped p g) (spots-seated ls ts there)))
+      (v .exact ts (leaf (public 0)) h (le-refl k) refl labelled (room .short) (room .wide) (room .room) (omega (arith, room .few)));
+}
+
+-- The first of senders: its thread is one of the list, and it meets no limit.
+pub first-of : {A : Type 0} {R : A → Type 0} {w : A} {ws : List A} → Every R (w ∷ ws) → R w
+first-of (r also rs) = r
+
+pub record Known (start k to long : ℕ) (ps : List Placed) (w : Party) : Type 0 where
+  pub parts : ps ≡ whole (w .spot)
+  pub below : recordAt start (w .spot) < to
+  pub sending : Sending k long (w .offer)
+
+pub sender-known : {s out : List ℕ} {start k to : ℕ} (x : ℕ) (ps ls ts : List Placed) {w : Party} {others : List Party}
+    → Threads s out start k ps to → ps ≡ ls ++ ts → length s ≤ 4096 → k ≤ 128 → sendersFrom k x (spotsFrom ls ts) ≡ w ∷ others
+    → Known start k to (length s) ps w
+unfolding sendersFrom
+sender-known {s} {out} {start} {k} {to} x ps ls ts {w} {others} h split short few e =
+    let there : Threads s out start k (ls ++ ts) to = subst (λ us. Threads s out start k us to) split h in
+    let seated : Every (Seated s start k to (ls ++ ts)) (spotsFrom ls ts) = spots-seated ls ts (threads-behind ls ts there) in
+    let all : Every (Known start k to (length s) (ls ++ ts)) (sendersFrom k x (spotsFrom ls ts)) =
+    parties-all (outputs 0) (leaf (public 0)) (λ p. offersOf (p .thread) k)
+    (λ n p g. every-map (λ a sent t. record { parts = g .parts; below = g .below; sending = sent t })
+    (sending-all n (p .thread) (g .standing) (g .judged) short few))
+    x (spotsFrom ls ts) seated in
+    subst (λ us. Known start k to (length s) us w) (sym split)
+    (first-of (subst (λ us. Every (Known start k to (length s) (ls ++ ts)) us) e all))
+
+-- The answer where a taker is found.
+abbrev found : (at mark next at′ mark′ next′ size : ℕ) → Next
+found at mark next at′ mark′ next′ size = Found (record {
+  label = Silent;
+  mode = 0;
+  copy = 0;
+  sender = record { at = at; mark = mark; next = next };
+  taker = record { at = at′; mark = mark′; next = next′ };
+  size = size;
+})
+
+-- The takers of a sender.
+abbrev takersOf : (y : ℕ) → Party → List Placed → List Placed → List Party
+takersOf y w ls ts = partiesFrom (inputs y 0) (channelOf (w .offer)) (offeredTo w) (spotsFrom ls ts)
+
+-- Where none is seen, there is none.
+none-shown : (start : ℕ) (after : List ℕ) (r : Sighting) (w : Party) (us : List Party) (said : List ℕ) → ShowsSight after r (sightOf start us)
+    → r .done .mark ≡ 0 → Shown start said None (map (meetingOf w) us)
+none-shown start after r w [] said g e = refl
+none-shown start after r w (u ∷ us) said g e = absurd (omega (arith, g .mark))
+
+-- What is seen first among the takers.
+module _ {s label : List ℕ} {to : ℕ} {m : List ℕ} (now : Sighting) {taker y : ℕ} {out : List ℕ} {r : Sighting} {after : List ℕ}
+    (v : Seeks s label taker to m (inputs y 0) (now .at) (now .done .names) out r after) where
+  taker-sought : (start k : ℕ) (ps ls ts : List Placed) (w : Party) (message : List ℕ) → Threads s out start k ps to
+      → Roomy s out m message k to → ps ≡ ls ++ ts → taker ≡ start + length (encodeRecords ls) → Known start k to (length s) ps w
+      → Sees out now (recordAt start (w .spot)) (w .offer) → Labelled label (channelOf (w .offer))
+      → ShowsSight after r (sightOf start (takersOf y w ls ts))
+  taker-sought start k ps ls ts w message h room split here known sees labelled =
+      let there : Threads s out start k (ls ++ ts) to = subst (λ us. Threads s out start k us to) split h in
+      let behind = threads-behind ls ts there in
+      let whole-too : ls ++ ts ≡ whole (w .spot) = sym split ∙ known .parts in
+      let sending = known .sending in
+      let seen = v .exact ts (channelOf (w .offer)) (subst (λ (n : ℕ). Threads s out n k ts to) (sym here) behind)
+      (rw (sees .next) (sending .later)) refl labelled (room .short) (room .wide) (room .room) (rw (sees .next) (sending .small)) in
+      let same-sight =
+      first-among (inputs 0 0) (channelOf (w .offer)) start (w .offer .next) (recordAt start (w .spot)) (offeredTo w) y ls ts taker here
+      (every-map (λ q g. sender-skipped (w .offer .next) (w .spot) q whole-too g) (spots-seated ls ts behind)) in
+      subst (λ (i : Sight). ShowsSight after r i) same-sight (rw (sees .next, sees .at) at seen)
+
+  -- The first one is met.
+  one-shown : (start size : ℕ) (w : Party) (us : List Party) (said : List ℕ) → ShowsSight after r (sightOf start us) → (r .done .mark ≡ 0 → ⊥)
+      → Sees out now (recordAt start (w .spot)) (w .offer)
+      → Stands said 0 (encodeMessage (worked (w .offer .bound) (messageOf (w .offer .prefix)))) size
+      → Shown start said (found (now .at) (now .done .mark) (now .done .names) (r .at) (r .done .mark) (r .done .names) size) (map (meetingOf w) us)
+  unfolding stepOf runOf
+  one-shown start size w [] said g n sees stands = absurd (n g)
+  one-shown start size w (u ∷ us) said g n sees stands =
+      let long : length (encodeMessage (worked (w .offer .bound) (messageOf (w .offer .prefix)))) ≡ size = omega (arith, stands .size) in
+      (rw (sees .at, sees .mark, sees .next, g .at, g .mark, g .next, ← long), rw long stands)
+
+  pub takes-none : {size : ℕ} → r .done .mark ≡ 0 → Takes s label to m now taker y out size None
+  unfolding takersFrom
+  takes-none e = record {
+    exact = λ start k x ps ls ts ls′ ts′ w others said message h room split split′ here senders sees labelled stands.
+        let known = sender-known x ps ls ts h split (room .short) (room .few) senders in
+        none-shown start after r w (takersOf y w ls′ ts′) said (taker-sought start k ps ls′ ts′ w message h room split′ here known sees labelled) e;
+  }
+
+  pub takes-one : {size : ℕ} → (r .done .mark ≡ 0 → ⊥)
+      → Takes s label to m now taker y out size
+      (found (now .at) (now .done .mark) (now .done .names) (r .at) (r .done .mark) (r .done .names) size)
+  unfolding takersFrom
+  takes-one {size} n = record {
+    exact = λ start k x ps ls ts ls′ ts′ w others said message h room split split′ here senders sees labelled stands.
+        let known = sender-known x ps ls ts h split (room .short) (room .few) senders in
+        let seen = taker-sought start k ps ls′ ts′ w message h room split′ here known sees labelled in
+        one-shown start size w (takersOf y w ls′ ts′) said seen n sees stands;
+  }
+
+pub ruleset takings = (takes-none, takes-one)

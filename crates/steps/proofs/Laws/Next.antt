@@ -1,0 +1,111 @@
+-- The next step of whichever label ("Steps"). Assumes nothing.
+use mathlib.Core.Path.{_≡_, refl, sym, subst}
+use mathlib.Core.Bool.{Bool, true, false}
+use mathlib.Core.List.{List, [], _∷_, _++_}
+use Prim.Native.Nat.{ℕ, _+_, _≤_}
+use native.Mathlib.Omega.{arith}
+use lib.ListN.{length}
+use Rattle.meaning.specs.Messages.Term.{Message}
+use Rattle.meaning.specs.Bytes.Process.{Prefix, output, input}
+use Rattle.meaning.specs.Bytes.Standing.{Stands}
+use Rattle.meaning.specs.Places.{Every, none, _also_}
+use Rattle.meaning.specs.Steps.State.{State}
+use Rattle.messages.specs.Buffer.{Within}
+use Rattle.states.specs.declared.state.State as code
+use Rattle.walks.specs.Located.{Acting}
+use Rattle.steps.specs.Spot.{Spot}
+use Rattle.steps.specs.Moves.{Move, alone, inside, between, labelledMoves, silentMoves}
+use Rattle.steps.specs.Visit.{Labelled}
+use Rattle.steps.specs.Held.{Held}
+use Rattle.steps.specs.Step.{runOf, Shown}
+use Rattle.steps.specs.Silent.{Roomy}
+use Rattle.steps.specs.Labelled.{Told, ShowsNext, NextLabelled}
+use Rattle.steps.specs.Next.{movesOf, modeBefore, nobodyAt, before, Behind, all, later, Searching, Nexts, NextFrom, NextSilent}
+use Rattle.steps.specs.declared.step.Step as step
+use Rattle.steps.specs.declared.step.Label.{Label}
+use Rattle.steps.specs.declared.step.Label.the-variants.{Output, Input, Silent}
+use Rattle.steps.specs.declared.step.Next.{Next}
+use Rattle.steps.proofs.Laws.Moves.{prefixed}
+use Rattle.steps.proofs.Laws.Start.{held-threads}
+use Rattle.steps.proofs.Laws.Cursor.{labelOf, Asked, first-shown, later-shown}
+
+-- What is told of a message is that its run stands.
+told-run : (said : List ℕ) (w : Move) → Told said w → Stands said 0 (runOf w) (length (runOf w))
+unfolding runOf
+told-run said (alone p a) t = of (a .prefix) t
+  where
+    of : (q : Prefix) → Told said (alone p (prefixed a q)) → Stands said 0 (runOf (alone p (prefixed a q))) (length (runOf (alone p (prefixed a q))))
+    of (output C M) (t also ts) = t
+    of (input C) t = record { bytes = refl; size = refl }
+told-run said (inside p w) (t also ts) = t
+told-run said (between p q w) (t also ts) = t
+
+shown-told : (start : ℕ) (said : List ℕ) (r : Next) (ws : List Move) → ShowsNext start said r ws → Shown start said r ws
+shown-told start said r [] e = e
+shown-told start said r (w ∷ ws) (e, t) = (e, told-run said w t)
+
+-- Outputs and inputs.
+module _ {s channel : List ℕ} {st : code.State} {m out message : List ℕ} {r : Next} {said : List ℕ} where
+  labelled-shown : (sending : Bool) (S : State) (x : Message) (h : Held s out st S) → Labelled channel x → Searching s st m out message
+      → {from : step.Step} {others : List Move} → NextLabelled s channel st from m out message r said → from .label ≡ labelOf sending
+      → Behind (labelOf sending) (st .start) (labelledMoves sending x (S .next) (h .at .placed)) from others
+      → Shown (st .start) said r others
+  labelled-shown sending S x h l o {from} {others} n e b =
+      let asked : Asked s channel st S (h .at .placed) x m out message =
+      record {
+        state = h .at;
+        threads = held-threads h;
+        channelled = l;
+        short = o .short;
+        work = o .wide;
+        room = o .room;
+        few = h .made;
+        fits = o .long;
+      } in
+      shown-told (st .start) said r others (of sending asked n e b)
+    where
+      of : (sending : Bool) {from : step.Step} {others : List Move} → Asked s channel st S (h .at .placed) x m out message
+          → NextLabelled s channel st from m out message r said → from .label ≡ labelOf sending
+          → Behind (labelOf sending) (st .start) (labelledMoves sending x (S .next) (h .at .placed)) from others
+          → ShowsNext (st .start) said r others
+      of true asked n e all = first-shown asked n true refl refl refl
+      of false asked n e all = first-shown asked n false refl refl refl
+      of true asked n e (later earlier w {others} f) = later-shown asked n true earlier w others f refl
+      of false asked n e (later earlier w {others} f) = later-shown asked n false earlier w others f refl
+
+-- What the function promises.
+module _ {s channel : List ℕ} {st : code.State} {from : step.Step} {m out message : List ℕ} {r : Next} {said : List ℕ} where
+  pub next-output : from .label ≡ Output → NextLabelled s channel st from m out message r said → Nexts s channel st from m out message r said
+  next-output e n = record {
+    exact = λ S x h l o {others} b.
+        labelled-shown true S x h l o n e
+        (subst (λ (k : Label). Behind k (st .start) (movesOf k x (S .next) (h .at .placed)) from others) e b);
+  }
+
+  pub next-input : from .label ≡ Input → NextLabelled s channel st from m out message r said → Nexts s channel st from m out message r said
+  next-input e n = record {
+    exact = λ S x h l o {others} b.
+        labelled-shown false S x h l o n e
+        (subst (λ (k : Label). Behind k (st .start) (movesOf k x (S .next) (h .at .placed)) from others) e b);
+  }
+
+  pub next-silent : from .label ≡ Silent → NextSilent s st from m out message r said → Nexts s channel st from m out message r said
+  next-silent e n = record {
+    exact = λ S x h l o {others} b.
+        let same : S .next ≡ st .names = sym (h .at .names) in
+        let roomy : Roomy s out m message (st .names) (st .end) =
+        record { short = o .short; wide = o .wide; room = o .room; few = omega (arith, h .made, h .at .names); long = o .long } in
+        let c = subst (λ (k : Label). Behind k (st .start) (movesOf k x (S .next) (h .at .placed)) from others) e b in
+        n .exact (h .at .placed) tt (rw same at (held-threads h)) roomy (rw same at c);
+  }
+
+-- The place before the first step.
+pub begins-before : (l : Label) (start : ℕ) {n : ℕ} → n ≡ modeBefore l
+    → record { label = l; mode = n; copy = 0; sender = nobodyAt start; taker = nobodyAt start; size = 0 } ≡ before l start
+begins-before l start e = rw e
+
+-- Slices of one length.
+pub said-long : {low high : ℕ} {a b : List ℕ} → Within low high a b → length b ≡ length a
+said-long w = w .long
+
+pub ruleset nexts = (next-output, next-input, next-silent)

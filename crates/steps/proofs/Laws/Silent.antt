@@ -1,0 +1,205 @@
+-- The next silent step among all of them ("Steps"). Assumes nothing.
+use mathlib.Core.Path.{_≡_, refl, sym, ap, subst, _∙_}
+use mathlib.Core.Logic.{inl, inr}
+use mathlib.Core.List.{List, [], _∷_, _++_, map, flatMap}
+use Prim.Native.Nat.{ℕ, _+_, _-_, _*_, _≤_}
+use native.Mathlib.Omega.{arith}
+use lib.ListN.{length, length-append}
+use Rattle.meaning.specs.Places.{Every, none, _also_}
+use Rattle.meaning.proofs.Every.{every-map, every-split, every-parts}
+use Rattle.messages.specs.Buffer.{Within}
+use Rattle.states.specs.Record.{Placed, encodeRecord, encodeRecords}
+use Rattle.states.specs.declared.state.State as code
+use Rattle.walks.specs.Joint.{Pair, Joint}
+use Rattle.walks.specs.Sought.{Opened}
+use Rattle.walks.proofs.Laws.Copies.{split-joined, split-at}
+use Rattle.walks.proofs.Laws.Everywhere.{every-mapped, every-flatMap}
+use Rattle.steps.specs.Spot.{Spot, spots, spotsFrom, recordAt, copiesOf, jointsOf}
+use Rattle.steps.specs.Moves.{Move, alone, inside, between, meetings, silentMoves}
+use Rattle.steps.specs.Threads.{Threads}
+use Rattle.steps.specs.Step.{stepOf, modeOf, Shown}
+use Rattle.steps.specs.Silent.{copyMoves, laterSpots, Roomy, Joins}
+use Rattle.steps.specs.Resumption.{Resumed}
+use Rattle.steps.specs.Between.{betweenFrom, Betweens}
+use Rattle.steps.specs.Next.{before, Behind, all, later, placeOf, NextFrom}
+use Rattle.steps.specs.declared.step.Step as step
+use Rattle.steps.specs.declared.step.Label.the-variants.{Silent}
+use Rattle.steps.specs.declared.step.Next.{Next}
+use Rattle.steps.specs.declared.step.Next.the-variants as next
+use Rattle.steps.proofs.Laws.Threads.{first-thread, threads-kept}
+use Rattle.steps.proofs.Laws.CopyMoves.{copyMovesAll, silentMoves-parts}
+use Rattle.steps.proofs.Laws.CopyMovesLists.{split-parts}
+use Rattle.steps.proofs.Laws.CopyMovesResumed.{copyMovesResumed}
+use Rattle.steps.proofs.Laws.CopyMovesSilent.{Shared, both, everywhere, meetings-shared}
+use Rattle.steps.proofs.Laws.BetweenMoves.{betweenAll, betweenResumed}
+use Rattle.steps.proofs.Laws.Groups.{few-groups}
+use Rattle.steps.proofs.Laws.Joint.{shown-more, shown-next, thread-at}
+
+-- The steps of two threads.
+abbrev pub meetingsAll : (k : ℕ) → List Placed → List Move
+meetingsAll k ps = flatMap (meetings k (spots ps)) (spots ps)
+
+-- A step of one thread.
+data Single : Move → Type 0 where
+  one : (p : Spot) (j : Joint) → Single (inside p j)
+
+copies-single : (k : ℕ) (qs : List Spot) → Every Single (copyMoves k qs)
+copies-single k qs =
+    rw (copyMovesAll k qs) (every-flatMap _ (everywhere (λ p. every-mapped (inside p) (everywhere (one p) (jointsOf (p .thread) k))) qs))
+
+-- A silent step stands among those of one thread, or among those of two.
+data Stand (k : ℕ) (ps : List Placed) : Move → List Move → Type 0 where
+  in-copies : {p : Spot} {j : Joint} (rest : List Move) → Resumed k ps rest p j → Stand k ps (inside p j) (rest ++ meetingsAll k ps)
+  of-two : {p q : Spot} {v : Pair} {others : List Move} (earlier : List Move) → meetingsAll k ps ≡ earlier ++ (between p q v ∷ others)
+      → Stand k ps (between p q v) others
+
+stand : (k : ℕ) (ps : List Placed) (earlier : List Move) (w : Move) (others : List Move) → silentMoves k ps ≡ earlier ++ (w ∷ others)
+    → Stand k ps w others
+stand k ps earlier w others e =
+    elim (split-joined (copyMoves k (spots ps)) (split-at earlier (sym (silentMoves-parts k ps) ∙ e))) [
+      | inl t ↦
+          let (r, s, f) = t in
+          rw f (single r (every-split s (copies-single k (spots ps)) .1) (split-parts s))
+      | inr t ↦
+          let shared = every-flatMap (meetings k (spots ps)) (everywhere (meetings-shared k (spots ps)) (spots ps)) in
+          pair (t .0) (every-split (t .1) shared .1) (split-parts (t .1))
+    ]
+  where
+    single : {w : Move} (r : List Move) → Single w → copyMoves k (spots ps) ≡ earlier ++ (w ∷ r) → Stand k ps w (r ++ meetingsAll k ps)
+    single r (one p j) g = in-copies r (copyMovesResumed k ps earlier r p j g)
+
+    pair : {w : Move} (l : List Move) → Shared w → meetingsAll k ps ≡ l ++ (w ∷ others) → Stand k ps w others
+    pair l (both p q v) g = of-two l g
+
+-- The threads from one on.
+pub threads-from : {s out : List ℕ} {at k to : ℕ} (ls ts : List Placed) → Threads s out at k (ls ++ ts) to
+    → Threads s out (at + length (encodeRecords ls)) k ts to
+unfolding encodeRecords
+threads-from {s} {out} {at} {k} {to} [] ts h = let here : at + 0 ≡ at = omega arith in rw here h
+threads-from {s} {out} {at} {k} {to} (l ∷ ls) ts h =
+    let (_, _, others) = first-thread l (ls ++ ts) h in
+    let here : at + length (encodeRecord l) + length (encodeRecords ls) ≡ at + length (encodeRecord l ++ encodeRecords ls) =
+    omega (arith, length-append (encodeRecord l) (encodeRecords ls)) in
+    subst (λ (n : ℕ). Threads s out n k ts to) here (threads-from ls ts others)
+
+-- The position of a mark.
+place-mark : (n : ℕ) → placeOf (n + 1) ≡ n
+unfolding placeOf
+place-mark n = omega arith
+
+-- The searches behind a step: among two threads, and in copies.
+abbrev BetweensFrom : (s : List ℕ) → code.State → (m out message : List ℕ) → Next → (said : List ℕ) → step.Step → Type 0
+BetweensFrom s st m out message r said v =
+    Betweens s (st .start) (v .sender .at) (st .names) (st .end) m (placeOf (v .sender .mark)) (v .taker .at) (v .taker .mark) out message r said
+
+abbrev JoinsFrom : (s : List ℕ) → code.State → (m out message : List ℕ) → Next → (said : List ℕ) → step.Step → Type 0
+JoinsFrom s st m out message r said v =
+    Joins s (v .sender .at) (st .names) (st .end) m (v .copy) (v .mode) (placeOf (v .sender .mark)) (v .taker .mark) 8193 out message r said
+
+module _ (s : List ℕ) (st : code.State) (m out message : List ℕ) (r : Next) (said : List ℕ) (ps : List Placed)
+    (threads : Threads s out (st .start) (st .names) ps (st .end)) (roomy : Roomy s out m message (st .names) (st .end)) where
+  after-two : (w : Move) (others : List Move) → Stand (st .names) ps w others → stepOf (st .start) w .mode ≡ 0
+      → BetweensFrom s st m out message r said (stepOf (st .start) w) → Shown (st .start) said r others
+  unfolding stepOf spotsFrom
+  after-two w others (in-copies rest res) e b = absurd (omega (arith, res .mode-low))
+  after-two w others (of-two {p} {q} {v} earlier g) e b =
+      let (sp, sq, left) = betweenResumed (st .names) ps earlier others p q v g in
+      let shown = b .exact ps (p .before) (p .thread ∷ p .behind) (q .before) (q .thread ∷ q .behind) threads roomy sp refl sq refl in
+      rw (place-mark (v .sender .place), left) at shown
+
+  two-behind : {from : step.Step} {others : List Move} → Behind Silent (st .start) (silentMoves (st .names) ps) from others → from .mode ≡ 0
+      → BetweensFrom s st m out message r said from → Shown (st .start) said r others
+  two-behind all e b = absurd (omega (arith, e))
+  two-behind (later earlier w {others} f) e b = after-two w others (stand (st .names) ps earlier w others f) e b
+
+  -- What is left in copies, before all steps of two threads.
+  record Copied (others : List Move) : Type 0 where
+    pub left : List Move
+    pub shown : Shown (st .start) said r left
+    pub rest : others ≡ left ++ meetingsAll (st .names) ps
+
+  after-one : (w : Move) (others : List Move) → Stand (st .names) ps w others → (stepOf (st .start) w .mode ≡ 0 → ⊥)
+      → JoinsFrom s st m out message r said (stepOf (st .start) w) → Copied others
+  unfolding stepOf
+  after-one w others (of-two earlier g) e b = absurd (e refl)
+  after-one w others (in-copies {p} {j} rest res) e b =
+      let own = threads-from (p .before) (p .thread ∷ p .behind) (rw (res .parts) at threads) in
+      let few : length (copiesOf (p .thread) (st .names)) ≤ 4096 = few-groups (p .thread) (thread-at (p .thread) (p .behind) own roomy) in
+      let long : length (copiesOf (p .thread) (st .names)) ≡ length (res .pre) + length (res .w ∷ res .post) =
+      rw (res .listed) (length-append (res .pre) (res .w ∷ res .post)) in
+      let shown = b .later (st .start) p (res .pre) (res .post) (res .w) own roomy refl (res .listed) (rw (res .meant)) (res .mode-low)
+      (res .mode-high) (omega (arith, few, long, res .mode-low)) in
+      record { left = rest; shown = rw (place-mark (j .pair .sender .place), res .left) at shown; rest = refl }
+
+  one-behind : {from : step.Step} {others : List Move} → Behind Silent (st .start) (silentMoves (st .names) ps) from others
+      → (from .mode ≡ 0 → ⊥) → JoinsFrom s st m out message r said from → Copied others
+  unfolding encodeRecords
+  one-behind all e b =
+      let here : st .start ≡ st .start + 0 = omega arith in
+      record {
+        left = copyMoves (st .names) (spots ps);
+        shown = b .first (st .start) [] ps threads roomy here refl refl (omega arith);
+        rest = silentMoves-parts (st .names) ps;
+      }
+  one-behind (later earlier w {others} f) e b = after-one w others (stand (st .names) ps earlier w others f) e b
+
+-- What the functions promise.
+module _ {s : List ℕ} {st : code.State} {from : step.Step} {m out message : List ℕ} where
+  pub next-between : {r : Next} {said : List ℕ} {x : ℕ} → x ≡ placeOf (from .sender .mark)
+      → Betweens s (st .start) (from .sender .at) (st .names) (st .end) m x (from .taker .at) (from .taker .mark) out message r said
+      → NextFrom (λ v. v .mode ≡ 0) s st from m out message r said
+  next-between {r} {said} e b = record {
+    exact = λ ps here threads roomy behind. two-behind s st m out message r said ps threads roomy behind here (rw e at b);
+  }
+
+  module _ {r₁ : Next} {said₁ : List ℕ} {x : ℕ} (p : x ≡ placeOf (from .sender .mark))
+      (b′ : Joins s (from .sender .at) (st .names) (st .end) m (from .copy) (from .mode) x (from .taker .mark) 8193 out message r₁ said₁) where
+    pub next-found : {v : step.Step} → r₁ ≡ next.Found v → NextFrom (λ v. v .mode ≡ 0 → ⊥) s st from m out message (next.Found v) said₁
+    next-found {v} e = record {
+      exact = λ ps here threads roomy behind.
+          let c = one-behind s st m out message r₁ said₁ ps threads roomy behind here (rw p at b′) in
+          rw (c .rest) (shown-more (st .start) said₁ v (c .left) (meetingsAll (st .names) ps)
+          (subst (λ (n : Next). Shown (st .start) said₁ n (c .left)) e (c .shown)));
+    }
+
+    pub next-two : {m₁ out₁ said : List ℕ} {r : Next} {low high : ℕ} → r₁ ≡ next.None → Within low high m m₁
+        → Within (st .end) (length out) out out₁ → length said₁ ≡ length message
+        → Betweens s (st .start) (st .start) (st .names) (st .end) m₁ 0 (st .start) 0 out₁ said₁ r said
+        → NextFrom (λ v. v .mode ≡ 0 → ⊥) s st from m out message r said
+    unfolding encodeRecords
+    next-two {m₁} {out₁} {said} {r} e wm wo l two = record {
+      exact = λ ps here threads roomy behind.
+          let c = one-behind s st m out message r₁ said₁ ps threads roomy behind here (rw p at b′) in
+          let start : st .start ≡ st .start + 0 = omega arith in
+          let roomy₁ : Roomy s out₁ m₁ said₁ (st .names) (st .end) =
+          record {
+            short = roomy .short;
+            wide = omega (arith, wm .long, roomy .wide);
+            room = omega (arith, wo .long, roomy .room);
+            few = roomy .few;
+            long = omega (arith, roomy .long);
+          } in
+          let shown = two .exact ps [] ps [] ps (threads-kept ps wo (omega arith) threads) roomy₁ refl start refl start in
+          rw (c .rest) (shown-next (st .start) said₁ said r (c .left) (meetingsAll (st .names) ps)
+          (subst (λ (n : Next). Shown (st .start) said₁ n (c .left)) e (c .shown)) (rw (betweenAll (st .names) ps) shown));
+    }
+
+  pub next-first : {r : Next} {said : List ℕ} → from .mode ≡ 0 → NextFrom (λ v. v .mode ≡ 0) s st from m out message r said
+      → NextFrom (λ v. Unit {0}) s st from m out message r said
+  next-first e f = record { exact = λ ps here. f .exact ps e }
+
+  pub next-second : {r : Next} {said : List ℕ} → (from .mode ≡ 0 → ⊥) → NextFrom (λ v. v .mode ≡ 0 → ⊥) s st from m out message r said
+      → NextFrom (λ v. Unit {0}) s st from m out message r said
+  next-second e f = record { exact = λ ps here. f .exact ps e }
+
+pub ruleset silents = (next-between, next-found, next-two, next-first, next-second)
+
+pub no-place : (n : ℕ) → n ≡ 0 → 0 ≡ placeOf n
+unfolding placeOf
+no-place n e = omega arith
+
+pub some-place : (n : ℕ) → n - 1 ≡ placeOf n
+unfolding placeOf
+some-place n = refl
+
+pub ruleset places = (no-place, some-place)

@@ -1,0 +1,15 @@
+-- `steps::numbers::arrive` meets its contract. Assumes nothing.
+use borrow.Author.Needs.{needs}
+use Rattle.steps.proofs.Laws.Numbers.{thread-arrives, frames}
+use Rattle.states.proofs.Laws.Frame.{to-ends}
+use Rattle.steps.proofs.numbers.arrive.Statement.{statement}
+use Rattle.steps.proofs.numbers.arrive.Tie as tie
+
+pub arrive-spec : {M : Type 1} → statement M
+arrive-spec = tie.close (tie.spec
+    (λ c κs. search needs)
+    (λ c κs. search needs)
+    (λ c κs. search needs)
+    (λ c. search needs)
+    (λ c. search needs)
+    (λ c. (search needs, (search (needs, to-ends), (search (needs, frames), search (needs, thread-arrives))))))

@@ -1,0 +1,12 @@
+-- `steps::rests::only` meets its contract. Assumes nothing.
+use borrow.Author.Needs.{needs}
+use Rattle.steps.proofs.Laws.Rests.{only-names}
+use Rattle.steps.proofs.rests.only.Statement.{statement}
+use Rattle.steps.proofs.rests.only.Tie as tie
+
+pub only-spec : {M : Type 1} → statement M
+only-spec = tie.close (tie.spec
+    (λ c. search needs)
+    (λ c. search needs)
+    (λ c. search (needs, only-names))
+    (λ c. search needs))

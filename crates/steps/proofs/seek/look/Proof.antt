@@ -1,0 +1,14 @@
+-- `steps::seek::look` meets its contract. Assumes nothing.
+use borrow.Author.Needs.{needs}
+use Rattle.states.proofs.Laws.Frame.{to-ends}
+use Rattle.steps.proofs.Laws.Seek.{looks, behind}
+use Rattle.steps.proofs.seek.look.Statement.{statement}
+use Rattle.steps.proofs.seek.look.Tie as tie
+
+pub look-spec : {M : Type 1} → statement M
+look-spec = tie.close (tie.spec
+    (λ c κs. search needs)
+    (λ c κs. search needs)
+    (λ c. search needs)
+    (λ c. search needs)
+    (λ c. (search (needs, to-ends), (search (needs, behind), search (needs, looks)))))

@@ -1,0 +1,128 @@
+-- Silent steps of two threads: the next pair of a sender and a taker ("Steps"). Assumes nothing.
+use mathlib.Core.Path.{_≡_}
+use mathlib.Core.Bool.{Bool, true, false}
+use mathlib.Core.List.{List, [], _∷_, _++_, map, flatMap}
+use Prim.Native.Nat.{ℕ, _+_, _≤_, _<_}
+use lib.ListN.{length}
+use Rattle.meaning.specs.Messages.Term.{leaf, public, Message}
+use Rattle.meaning.specs.Bytes.Standing.{Stands}
+use Rattle.meaning.specs.Steps.State.{worked}
+use Rattle.messages.specs.Encoding.{encodeMessage}
+use Rattle.states.specs.Record.{Placed, encodeRecords}
+use Rattle.states.specs.declared.task.Quest.{Quest}
+use Rattle.walks.specs.Located.{Acting}
+use Rattle.walks.specs.Joint.{Pair, messageOf}
+use Rattle.walks.specs.Sought.{wanted}
+use Rattle.steps.specs.Spot.{Spot, spots, spotsFrom, recordAt, offersOf, filter}
+use Rattle.steps.specs.Threads.{Threads}
+use Rattle.steps.specs.Visit.{Labelled}
+use Rattle.steps.specs.Moves.{Move, between, meetings}
+use Rattle.steps.specs.Outcome.{same}
+use Rattle.steps.specs.Seek.{Sight, unseen, seen, afresh, Sees, ShowsSight}
+use Rattle.steps.specs.Meet.{outputs, inputs, channelOf}
+use Rattle.steps.specs.Silent.{laterSpots, Roomy}
+use Rattle.steps.specs.Step.{Shown}
+use Rattle.steps.specs.declared.seek.Sighting.{Sighting}
+use Rattle.steps.specs.declared.step.Next.{Next}
+
+-- A thread of a state, and one of its offers.
+pub record Party : Type 0 where
+  pub spot : Spot
+  pub offer : Acting
+
+-- The offers of a quest among threads, f being what a thread offers. Where the quest begins matters in the first thread only.
+unfoldable pub partiesFrom : Quest → Message → (f : Spot → List Acting) → List Spot → List Party
+partiesFrom q x f [] = []
+partiesFrom q x f (p ∷ ps) = map (λ a. record { spot = p; offer = a }) (filter (wanted q x) (f p)) ++ partiesFrom (afresh q) x f ps
+
+-- The senders among threads, copies being opened at k, in the first thread from the position x on. The message of the label does not matter.
+unfoldable pub sendersFrom : (k x : ℕ) → List Spot → List Party
+sendersFrom k x ps = partiesFrom (outputs x) (leaf (public 0)) (λ p. offersOf (p .thread) k) ps
+
+-- What a thread offers to a sender, which is another thread: copies are opened at the sender's next name.
+abbrev pub offeredTo : Party → Spot → List Acting
+offeredTo w q = elim (same (w .spot) q) [ true ↦ [] | false ↦ offersOf (q .thread) (w .offer .next) ]
+
+abbrev pub meetingOf : (sender taker : Party) → Move
+meetingOf w u = between (w .spot) (u .spot) (record { sender = w .offer; taker = u .offer })
+
+-- The meetings of a sender with the takers among threads, in the first thread from the position y on.
+unfoldable pub takersFrom : (sender : Party) → (y : ℕ) → List Spot → List Move
+takersFrom w y qs = map (meetingOf w) (partiesFrom (inputs y 0) (channelOf (w .offer)) (offeredTo w) qs)
+
+-- The meetings of the first of these senders with the takers among ts from y on, and of the others with all takers.
+unfoldable pub meetingsFrom : (qs ts : List Spot) → (y : ℕ) → (senders : List Party) → List Move
+meetingsFrom qs ts y [] = []
+meetingsFrom qs ts y (w ∷ others) = takersFrom w y ts ++ meetingsFrom qs qs 0 others
+
+-- What is left: senders among ps from x on, the first with its takers among ts from y on. All threads are qs.
+unfoldable pub betweenFrom : (qs : List Spot) → (k : ℕ) → (ps : List Spot) → (x : ℕ) → (ts : List Spot) → (y : ℕ) → List Move
+betweenFrom qs k ps x ts y = meetingsFrom qs ts y (sendersFrom k x ps)
+
+-- The first of these parties, as a walk over records from start on sees it.
+abbrev pub sightOf : (start : ℕ) → List Party → Sight
+sightOf start [] = unseen
+sightOf start (w ∷ others) = seen (recordAt start (w .spot)) (w .offer)
+
+-- A sender at a mark in the record at a position is later than x in the record at the position at.
+pub record Ahead (at x to long place mark : ℕ) : Type 0 where
+  pub some : 1 ≤ mark
+  pub within : mark ≤ long
+  pub below : place < to
+  pub later : at ≤ place
+  pub after : place ≡ at → x < mark
+
+pub record Follows (at x to long place mark : ℕ) (r : Bool) : Type 0 where
+  pub sound : r ≡ true → Ahead at x to long place mark
+  pub complete : Ahead at x to long place mark → r ≡ true
+
+-- The first sender from x on among the threads ts, before which ls stand.
+pub record Sends (s : List ℕ) (at k to : ℕ) (m : List ℕ) (x : ℕ) (out : List ℕ) (r : Sighting) (after : List ℕ) : Type 0 where
+  pub exact : (start : ℕ) (ls ts : List Placed) {message : List ℕ} → Threads s out at k ts to → Roomy s out m message k to
+      → at ≡ start + length (encodeRecords ls) → ShowsSight after r (sightOf start (sendersFrom k x (spotsFrom ls ts)))
+
+-- One sender, found already among the threads ts, and its takers among ts′ from y on; all threads are ps. The label is the sender's channel,
+-- and what it sends stands somewhere and takes so many bytes.
+pub record Takes (s label : List ℕ) (to : ℕ) (m : List ℕ) (now : Sighting) (taker y : ℕ) (out : List ℕ) (size : ℕ) (r : Next) : Type 0 where
+  pub exact : (start k x : ℕ) (ps ls ts ls′ ts′ : List Placed) (w : Party) (others : List Party) (said message : List ℕ)
+      → Threads s out start k ps to → Roomy s out m message k to → ps ≡ ls ++ ts → ps ≡ ls′ ++ ts′
+      → taker ≡ start + length (encodeRecords ls′) → sendersFrom k x (spotsFrom ls ts) ≡ w ∷ others
+      → Sees out now (recordAt start (w .spot)) (w .offer) → Labelled label (channelOf (w .offer))
+      → Stands said 0 (encodeMessage (worked (w .offer .bound) (messageOf (w .offer .prefix)))) size
+      → Shown start said r (takersFrom w y (spotsFrom ls′ ts′))
+
+-- The same, where channel and message stand behind the state.
+pub record Pairs (s : List ℕ) (to : ℕ) (m : List ℕ) (now : Sighting) (taker y : ℕ) (out : List ℕ) (message : List ℕ) (r : Next) (said : List ℕ)
+    : Type 0 where
+  pub exact : (start k x : ℕ) (ps ls ts ls′ ts′ : List Placed) (w : Party) (others : List Party) → Threads s out start k ps to
+      → Roomy s out m message k to → ps ≡ ls ++ ts → ps ≡ ls′ ++ ts′ → taker ≡ start + length (encodeRecords ls′)
+      → sendersFrom k x (spotsFrom ls ts) ≡ w ∷ others → Sees out now (recordAt start (w .spot)) (w .offer)
+      → Shown start said r (takersFrom w y (spotsFrom ls′ ts′))
+
+-- The same, and then the senders after it with all their takers.
+pub record Onward (s : List ℕ) (start k to : ℕ) (m : List ℕ) (now : Sighting) (taker y : ℕ) (out : List ℕ) (message : List ℕ) (r : Next)
+    (said : List ℕ) : Type 0 where
+  pub exact : (x : ℕ) (ps ls ts ls′ ts′ : List Placed) (w : Party) (others : List Party) → Threads s out start k ps to
+      → Roomy s out m message k to → ps ≡ ls ++ ts → ps ≡ ls′ ++ ts′ → taker ≡ start + length (encodeRecords ls′)
+      → sendersFrom k x (spotsFrom ls ts) ≡ w ∷ others → Sees out now (recordAt start (w .spot)) (w .offer)
+      → Shown start said r (meetingsFrom (spots ps) (spotsFrom ls′ ts′) y (w ∷ others))
+
+-- Whatever threads ps stand from start on: the answer is the first of what is left, senders among ts from x on, takers among ts′ from y on.
+pub record Betweens (s : List ℕ) (start at k to : ℕ) (m : List ℕ) (x taker y : ℕ) (out : List ℕ) (message : List ℕ) (r : Next) (said : List ℕ)
+    : Type 0 where
+  pub exact : (ps ls ts ls′ ts′ : List Placed) → Threads s out start k ps to → Roomy s out m message k to → ps ≡ ls ++ ts
+      → at ≡ start + length (encodeRecords ls) → ps ≡ ls′ ++ ts′ → taker ≡ start + length (encodeRecords ls′)
+      → Shown start said r (betweenFrom (spots ps) k (spotsFrom ls ts) x (spotsFrom ls′ ts′) y)
+
+-- The meetings of the definitions are those from the beginning on; what is left behind one of them is what comes after it. The proofs are in
+-- proofs/Laws/BetweenMoves.antt, under the same names with a small first letter.
+abbrev pub BetweenAll : Type 0
+BetweenAll =
+    (k : ℕ) (ps : List Placed) → flatMap (meetings k (spots ps)) (spots ps) ≡ betweenFrom (spots ps) k (spots ps) 0 (spots ps) 0
+
+abbrev pub BetweenResumed : Type 0
+BetweenResumed =
+    (k : ℕ) (ps : List Placed) (before after : List Move) (p q : Spot) (v : Pair)
+    → flatMap (meetings k (spots ps)) (spots ps) ≡ before ++ (between p q v ∷ after)
+    → (ps ≡ p .before ++ (p .thread ∷ p .behind)) × (ps ≡ q .before ++ (q .thread ∷ q .behind))
+    × (betweenFrom (spots ps) k (p ∷ laterSpots p) (v .sender .place) (q ∷ laterSpots q) (v .taker .place + 1) ≡ after)

@@ -1,0 +1,211 @@
+// Silent steps of two threads: the next pair of a sender and a taker ("Steps").
+use crate::hand;
+use crate::seek;
+use crate::seek::Sighting;
+use crate::step::Actor;
+use crate::step::Label;
+use crate::step::Next;
+use crate::step::Step;
+use states::task::Quest;
+ghost use mathlib.Core.Path.{_≡_};
+ghost use Prim.Native.Nat.{_≤_};
+ghost use lib.ListN.{length};
+ghost use Rattle.messages.specs.Buffer.{Within};
+ghost use Rattle.steps.specs.Between.{Follows, Sends, Takes, Pairs, Onward, Betweens};
+
+// Whether a sender that was found is one that was sought: at a mark above x in the record at the position at, or in a later one.
+fn follows(at: usize, x: usize, to: usize, long: usize, place: usize, mark: usize) -> bool
+    ensures { λ r. ⌜ Follows at x to long place mark r ⌝ }
+{
+    if mark == 0 {
+        return false;
+    }
+    if long < mark {
+        return false;
+    }
+    if to <= place {
+        return false;
+    }
+    if place == at {
+        return x < mark;
+    }
+    at < place
+}
+
+// The first sender among the threads whose records stand from a position on.
+fn sender(
+    s: &[u8],
+    at: usize,
+    names: usize,
+    to: usize,
+    m: &mut [u8],
+    x: usize,
+    out: &mut [u8],
+) -> Sighting
+    requires { ⌜ (length (now s) ≤ 4096) × (to ≤ length (now out)) ⌝ }
+    ensures { λ _. ⌜ Within 0 (length (now (m .entry))) (now (m .entry)) (now (m .exit)) ⌝ }
+    ensures { λ _. ⌜ Within to (length (now (out .entry))) (now (out .entry)) (now (out .exit)) ⌝ }
+    ensures { λ r. ⌜ Sends (now (s .entry)) at names to (now (m .entry)) x (now (out .entry)) r (now (out .exit)) ⌝ }
+{
+    let label: [u8; 2] = [16, 0];
+    seek::seek(
+        s,
+        &label[0..2],
+        at,
+        to,
+        m,
+        Quest {
+            output: true,
+            any: true,
+            from: x,
+            but: 0,
+        },
+        to,
+        names,
+        out,
+    )
+}
+
+// The first taker, from a record and a position in it on, of a message of so many bytes that the sender that was found sends on a channel.
+fn take(
+    s: &[u8],
+    channel: &[u8],
+    to: usize,
+    m: &mut [u8],
+    sender: Sighting,
+    taker: usize,
+    y: usize,
+    out: &mut [u8],
+    size: usize,
+) -> Next
+    requires { ⌜ (length (now s) ≤ 4096) × (to ≤ length (now out)) ⌝ }
+    ensures { λ _. ⌜ Within 0 (length (now (m .entry))) (now (m .entry)) (now (m .exit)) ⌝ }
+    ensures { λ _. ⌜ Within to (length (now (out .entry))) (now (out .entry)) (now (out .exit)) ⌝ }
+    ensures { λ r. ⌜ Takes (now (s .entry)) (now (channel .entry)) to (now (m .entry)) sender taker y (now (out .entry)) size r ⌝ }
+{
+    let at = sender.at;
+    let next = sender.done.names;
+    let found = seek::seek(
+        s,
+        channel,
+        taker,
+        to,
+        m,
+        Quest {
+            output: false,
+            any: false,
+            from: y,
+            but: 0,
+        },
+        at,
+        next,
+        out,
+    );
+    if found.done.mark == 0 {
+        return Next::None;
+    }
+    Next::Found(Step {
+        label: Label::Silent,
+        mode: 0,
+        copy: 0,
+        sender: Actor {
+            at: at,
+            mark: sender.done.mark,
+            next: next,
+        },
+        taker: Actor {
+            at: found.at,
+            mark: found.done.mark,
+            next: found.done.names,
+        },
+        size: size,
+    })
+}
+
+// The same, where the channel and the message stand behind the state.
+fn pair(
+    s: &[u8],
+    to: usize,
+    m: &mut [u8],
+    sender: Sighting,
+    taker: usize,
+    y: usize,
+    out: &mut [u8],
+    message: &mut [u8],
+) -> Next
+    requires { ⌜ (length (now s) ≤ 4096) × (to ≤ length (now out)) ⌝ }
+    ensures { λ _. ⌜ Within 0 (length (now (m .entry))) (now (m .entry)) (now (m .exit)) ⌝ }
+    ensures { λ _. ⌜ Within to (length (now (out .entry))) (now (out .entry)) (now (out .exit)) ⌝ }
+    ensures { λ _. ⌜ length (now (message .exit)) ≡ length (now (message .entry)) ⌝ }
+    ensures { λ r. ⌜ Pairs (now (s .entry)) to (now (m .entry)) sender taker y (now (out .entry)) (now (message .entry)) r (now (message .exit)) ⌝ }
+{
+    let mut channel: [u8; 510] = [0; 510];
+    let handed = hand::hand(out, sender.done.sent, &mut channel[0..510], message);
+    let long = handed.channel;
+    take(
+        s,
+        &channel[0..long],
+        to,
+        m,
+        sender,
+        taker,
+        y,
+        out,
+        handed.message,
+    )
+}
+
+// The first pair of a sender and a taker in different threads of the state whose records stand from start to another position: senders from
+// the record at the position at on, in it from x on; of the first sender takers from the record at the position taker on, in it from y on.
+pub fn between(
+    s: &[u8],
+    start: usize,
+    at: usize,
+    names: usize,
+    to: usize,
+    m: &mut [u8],
+    x: usize,
+    taker: usize,
+    y: usize,
+    out: &mut [u8],
+    message: &mut [u8],
+) -> Next
+    requires { ⌜ (length (now s) ≤ 4096) × (to ≤ length (now out)) ⌝ }
+    ensures { λ _. ⌜ Within 0 (length (now (m .entry))) (now (m .entry)) (now (m .exit)) ⌝ }
+    ensures { λ _. ⌜ Within to (length (now (out .entry))) (now (out .entry)) (now (out .exit)) ⌝ }
+    ensures { λ _. ⌜ length (now (message .exit)) ≡ length (now (message .entry)) ⌝ }
+    ensures { λ r. ⌜ Betweens (now (s .entry)) start at names to (now (m .entry)) x taker y (now (out .entry)) (now (message .entry)) r (now (message .exit)) ⌝ }
+{
+    let found = sender(s, at, names, to, m, x, out);
+    if follows(at, x, to, s.len(), found.at, found.done.mark) {
+        return onward(s, start, names, to, m, found, taker, y, out, message);
+    }
+    Next::None
+}
+
+// The same, where the sender was found already.
+fn onward(
+    s: &[u8],
+    start: usize,
+    names: usize,
+    to: usize,
+    m: &mut [u8],
+    sender: Sighting,
+    taker: usize,
+    y: usize,
+    out: &mut [u8],
+    message: &mut [u8],
+) -> Next
+    requires { ⌜ (length (now s) ≤ 4096) × (to ≤ length (now out)) ⌝ }
+    ensures { λ _. ⌜ Within 0 (length (now (m .entry))) (now (m .entry)) (now (m .exit)) ⌝ }
+    ensures { λ _. ⌜ Within to (length (now (out .entry))) (now (out .entry)) (now (out .exit)) ⌝ }
+    ensures { λ _. ⌜ length (now (message .exit)) ≡ length (now (message .entry)) ⌝ }
+    ensures { λ r. ⌜ Onward (now (s .entry)) start names to (now (m .entry)) sender taker y (now (out .entry)) (now (message .entry)) r (now (message .exit)) ⌝ }
+{
+    let at = sender.at;
+    let mark = sender.done.mark;
+    match pair(s, to, m, sender, taker, y, out, message) {
+        Next::Found(step) => Next::Found(step),
+        Next::None => between(s, start, at, names, to, m, mark, start, 0, out, message),
+    }
+}
