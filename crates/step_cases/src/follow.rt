@@ -1,0 +1,231 @@
+// The labels of a case followed, level by level: how many steps each has, and the states that they lead to.
+use crate::ask;
+use crate::ask::Led;
+use crate::label;
+use crate::label::MESSAGE;
+use crate::tell;
+use states::form;
+use states::form::Formed;
+use states::state::State;
+use steps::next;
+use steps::step::Label;
+use steps::step::Step;
+ghost use Prim.Native.Nat.{_≤_, _<_};
+ghost use lib.ListN.{length};
+
+// The most levels.
+const LEVELS: usize = 16;
+
+// Writes the start state of a model, and follows the labels from it.
+pub(crate) fn start(s: &[u8], labels: &[u8], m: &mut [u8], out: &mut [u8])
+    requires { ⌜ (length (now s) ≤ 4096) × (10750 ≤ length (now m)) × (3964 ≤ length (now out)) ⌝ }
+{
+    arrive(s, labels, 0, LEVELS, 0, form::start(s, m, out, 0), m, out);
+}
+
+// How many aliases there are after a step of a kind. Before the last level there are fewer than levels, so the remainder changes nothing.
+fn more(kind: Label, known: usize) -> usize {
+    match kind {
+        Label::Output => known % LEVELS + 1,
+        _ => known,
+    }
+}
+
+// Writes the state that a step leads to, or the start state, and follows the labels from a position on there, with so many levels left.
+fn arrive(
+    s: &[u8],
+    labels: &[u8],
+    at: usize,
+    left: usize,
+    known: usize,
+    formed: Formed,
+    m: &mut [u8],
+    out: &mut [u8],
+)
+    requires { ⌜ left ≤ 16 ⌝ }
+{
+    match formed {
+        Formed::At(state) => {
+            tell::state(state, known, 2 * (LEVELS - left));
+            follow(s, labels, at, left, known, state, m, out);
+        }
+        Formed::OverLimit => tell::over(2 * (LEVELS - left)),
+    }
+}
+
+// Follows the labels of a level, which stand from a position on, at a state.
+fn follow(
+    s: &[u8],
+    labels: &[u8],
+    at: usize,
+    left: usize,
+    known: usize,
+    state: State,
+    m: &mut [u8],
+    out: &mut [u8],
+)
+    requires { ⌜ left ≤ 16 ⌝ }
+{
+    if left == 0 {
+        return;
+    }
+    if labels.len() < at {
+        return;
+    }
+    let below = label::level_end(labels, at);
+    let next = below + 1;
+    let mut i = at;
+    while i < below {
+        follow_label(s, labels, i, next, left - 1, known, state, m, out);
+        i += label::width(labels[i]);
+    }
+}
+
+// Follows the label at a position; the labels of the next level stand from another one on.
+fn follow_label(
+    s: &[u8],
+    labels: &[u8],
+    at: usize,
+    next: usize,
+    left: usize,
+    known: usize,
+    state: State,
+    m: &mut [u8],
+    out: &mut [u8],
+)
+    requires { ⌜ (left < 16) × (at < length (now labels)) ⌝ }
+{
+    let mut channel = [0u8; MESSAGE];
+    let mut taken = [0u8; MESSAGE];
+    let c = label::channel(labels, at, state, out, m, &mut channel);
+    let t = label::taken(labels, at, state, out, m, &mut taken);
+    follow_all(
+        s,
+        labels,
+        at,
+        next,
+        left,
+        known,
+        state,
+        &channel[0..c],
+        &taken[0..t],
+        m,
+        out,
+    );
+}
+
+// Writes the label at a position and how many steps it has at a state, and answers that.
+fn told(
+    s: &[u8],
+    labels: &[u8],
+    at: usize,
+    left: usize,
+    state: State,
+    kind: Label,
+    channel: &[u8],
+    m: &mut [u8],
+    out: &mut [u8],
+) -> usize
+    requires { ⌜ left < 16 ⌝ }
+    ensures { λ r. ⌜ r ≤ 4096 ⌝ }
+{
+    let n = ask::count(s, state, kind, channel, m, out);
+    tell::label(labels, at, 2 * (LEVELS - left) - 1, n);
+    n
+}
+
+// Writes how many steps the label has whose channel's and input's runs are given, and follows them.
+fn follow_all(
+    s: &[u8],
+    labels: &[u8],
+    at: usize,
+    next: usize,
+    left: usize,
+    known: usize,
+    state: State,
+    channel: &[u8],
+    taken: &[u8],
+    m: &mut [u8],
+    out: &mut [u8],
+)
+    requires { ⌜ (left < 16) × (at < length (now labels)) ⌝ }
+{
+    let kind = label::kind(labels[at]);
+    let n = told(s, labels, at, left, state, kind, channel, m, out);
+    follow_steps(
+        s,
+        labels,
+        next,
+        left,
+        more(kind, known),
+        state,
+        kind,
+        n,
+        channel,
+        taken,
+        m,
+        out,
+    );
+}
+
+// Follows so many steps of a label.
+fn follow_steps(
+    s: &[u8],
+    labels: &[u8],
+    next: usize,
+    left: usize,
+    known: usize,
+    state: State,
+    kind: Label,
+    n: usize,
+    channel: &[u8],
+    taken: &[u8],
+    m: &mut [u8],
+    out: &mut [u8],
+)
+    requires { ⌜ (left ≤ 16) × (n ≤ 4096) ⌝ }
+{
+    let mut step = next::before(kind, state);
+    let mut done = 0;
+    while done < n {
+        step = follow_step(
+            s,
+            labels,
+            next,
+            left,
+            known,
+            state,
+            step,
+            channel,
+            taken,
+            m,
+            out,
+        );
+        done += 1;
+    }
+}
+
+// Follows the step after one, and answers it.
+fn follow_step(
+    s: &[u8],
+    labels: &[u8],
+    next: usize,
+    left: usize,
+    known: usize,
+    state: State,
+    step: Step,
+    channel: &[u8],
+    taken: &[u8],
+    m: &mut [u8],
+    out: &mut [u8],
+) -> Step
+    requires { ⌜ left ≤ 16 ⌝ }
+{
+    match ask::led_after(s, state, step, channel, taken, m, out) {
+        Led::To(found, formed) => {
+            arrive(s, labels, next, left, known, formed, m, out);
+            found
+        }
+        Led::Nowhere => step,
+    }
+}
