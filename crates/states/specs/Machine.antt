@@ -1,5 +1,5 @@
 -- The walk over a process, and what it does at each thread for each task. The walk of the code equals this one. What it has to do with
--- settling, limits and steps is proved in proofs/Laws: Counting, Settling, SeekFirst, SeekIn, Find and Built. Assumes nothing.
+-- settling and limits is proved in proofs/Laws (Counting, Settling), and with steps in the crate walks. Assumes nothing.
 use Prim.Native.Nat.{ℕ, suc, _+_}
 use mathlib.Core.Bool.{Bool, true, false, not, _&&_, _||_}
 use mathlib.Core.List.{[], _∷_}
