@@ -1,26 +1,9 @@
--- The laws by which the functions meet their contracts, and those of the walk on trees. Assumes nothing.
+-- The laws by which the functions meet their contracts. Assumes nothing.
 pub mod Process
 pub mod Record
 pub mod Room
 pub mod Progress
-pub mod Frame
-pub mod Small
+pub mod Renaming
 pub mod Push
-pub mod Offer
-pub mod Thread
-pub mod Hand
-pub mod Seek
-pub mod Fits
-pub mod Course
-pub mod Counting
-pub mod Crowd
-pub mod Settling
-pub mod Walk
-pub mod Copy
-pub mod Prefix
-pub mod Aim
-pub mod Repl
-pub mod Aims
-pub mod Rebuild
-pub mod Form
+pub mod Written
 pub mod Stored

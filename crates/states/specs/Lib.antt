@@ -2,10 +2,7 @@ pub mod Place
 pub mod Room
 pub mod Record
 pub mod Course
-pub mod Machine
-pub mod Settled
-pub mod News
-pub mod Walk
-pub mod Inner
-pub mod Form
+pub mod Shown
+pub mod Progress
+pub mod Written
 pub mod Stored

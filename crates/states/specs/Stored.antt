@@ -7,7 +7,7 @@ use Rattle.meaning.specs.Bytes.Standing.{Stands}
 use Rattle.terms.specs.Bound.{encodeBound}
 use Rattle.states.specs.Record.{Placed, boundOf, encodeRecord, Standing}
 use Rattle.states.specs.Course.{Going, push}
-use Rattle.states.specs.Walk.{Shows, ShowsCourse}
+use Rattle.states.specs.Shown.{Shows, ShowsCourse}
 use Rattle.states.specs.declared.stored.Loaded.{Loaded}
 use Rattle.states.specs.declared.progress.Progress.{Progress}
 

@@ -1,10 +1,7 @@
-// States in the lent work bytes: threads with their bound messages, settling, the limits of a state, and the threads that a step concerns
-// ("Steps"; "Judging and its count").
-pub mod form;
+// States in the lent work bytes: the records of threads, how they are written and loaded, the limits of a state, and what a walk that
+// writes one has come to ("Steps"; "Judging and its count").
 pub mod progress;
 pub mod record;
 pub mod state;
 pub mod stored;
-pub mod task;
-mod thread;
-pub mod walk;
+pub mod written;

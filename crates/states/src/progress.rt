@@ -1,7 +1,7 @@
 // What a walk has come to ("Steps").
 use crate::state::State;
 ghost use Prim.Native.Nat.{_<_};
-ghost use Rattle.states.specs.Inner.{Stopped, Renamed, Hits};
+ghost use Rattle.states.specs.Progress.{Stopped, Renamed, Hits};
 
 // Whether it goes on; the next private name; and the state that is being written. A walk that has found what it seeks goes no further:
 // then names is the next private name with all copies on the way opened, mark is that of the thread, and the messages that it hands over
@@ -15,7 +15,7 @@ pub struct Progress {
 }
 
 // A limit was met.
-pub(crate) fn stop(done: Progress) -> Progress
+pub fn stop(done: Progress) -> Progress
     ensures { λ r. ⌜ Stopped done r ⌝ }
 {
     let state = done.state;
@@ -29,7 +29,7 @@ pub(crate) fn stop(done: Progress) -> Progress
 }
 
 // The same, with another next private name, if the walk goes on.
-pub(crate) fn named(done: Progress, names: usize) -> Progress
+pub fn named(done: Progress, names: usize) -> Progress
     ensures { λ r. ⌜ Renamed done names r ⌝ }
 {
     let state = done.state;
@@ -47,7 +47,7 @@ pub(crate) fn named(done: Progress, names: usize) -> Progress
 }
 
 // The thread at a position was found, and hands over nothing.
-pub(crate) fn hit(done: Progress, at: usize, names: usize) -> Progress
+pub fn hit(done: Progress, at: usize, names: usize) -> Progress
     requires { ⌜ at < 4096 ⌝ }
     ensures { λ r. ⌜ Hits done at names r ⌝ }
 {

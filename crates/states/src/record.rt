@@ -1,7 +1,6 @@
 // The record of a thread: where its process stands in the model, how many bytes its bound messages take, and these messages ("Steps").
 use messages::node;
 use messages::run;
-ghost use mathlib.Core.Path.{_≡_};
 ghost use Prim.Native.Nat.{_+_, _*_, _≤_, _<_};
 ghost use lib.ListN.{length};
 ghost use Rattle.messages.specs.Buffer.{Within};

@@ -9,7 +9,7 @@ use messages::run;
 ghost use Prim.Native.Nat.{_+_, _≤_};
 ghost use lib.ListN.{length};
 ghost use Rattle.messages.specs.Buffer.{Within};
-ghost use Rattle.states.specs.Inner.{Extends};
+ghost use Rattle.states.specs.Progress.{Extends};
 ghost use Rattle.states.specs.Stored.{Fetched, Loads, Keeps};
 
 // A thread that was loaded: where its process stands in the model, where its messages end in the bytes m, and where its record ends.

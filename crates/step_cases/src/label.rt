@@ -1,8 +1,8 @@
 // The labels of a case: what they are, how many bytes they take, where a level of them ends, and the messages of their recipes.
 use crate::text;
 use messages::run;
+use moves::step::Label;
 use states::state::State;
-use steps::step::Label;
 use terms::work;
 use terms::work::Worked;
 ghost use Prim.Native.Nat.{_+_, _≤_, _<_};

@@ -9,21 +9,21 @@ use Rattle.meaning.specs.Bytes.Standing.{Stands}
 use Rattle.meaning.specs.Steps.State.{worked}
 use Rattle.messages.specs.Encoding.{encodeMessage}
 use Rattle.states.specs.Record.{Placed, encodeRecords}
-use Rattle.states.specs.declared.task.Quest.{Quest}
-use Rattle.walks.specs.Located.{Acting}
-use Rattle.walks.specs.Joint.{Pair, messageOf}
-use Rattle.walks.specs.Sought.{wanted}
-use Rattle.steps.specs.Spot.{Spot, spots, spotsFrom, recordAt, offersOf, filter}
-use Rattle.steps.specs.Threads.{Threads}
-use Rattle.steps.specs.Visit.{Labelled}
-use Rattle.steps.specs.Moves.{Move, between, meetings}
-use Rattle.steps.specs.Outcome.{same}
-use Rattle.steps.specs.Seek.{Sight, unseen, seen, afresh, Sees, ShowsSight}
-use Rattle.steps.specs.Meet.{outputs, inputs, channelOf}
-use Rattle.steps.specs.Silent.{laterSpots, Roomy}
-use Rattle.steps.specs.Step.{Shown}
-use Rattle.steps.specs.declared.seek.Sighting.{Sighting}
-use Rattle.steps.specs.declared.step.Next.{Next}
+use Rattle.threads.specs.declared.task.Quest.{Quest}
+use Rattle.positions.specs.Located.{Acting}
+use Rattle.positions.specs.Joint.{Pair, messageOf}
+use Rattle.positions.specs.Sought.{wanted}
+use Rattle.moves.specs.Spot.{Spot, spots, spotsFrom, recordAt, offersOf, filter}
+use Rattle.moves.specs.Threads.{Threads}
+use Rattle.walks.specs.Visit.{Labelled}
+use Rattle.moves.specs.Moves.{Move, between, meetings}
+use Rattle.moves.specs.Outcome.{same}
+use Rattle.offers.specs.Seek.{Sight, unseen, seen, afresh, Sees, ShowsSight}
+use Rattle.moves.specs.CopyOffers.{outputs, inputs, channelOf}
+use Rattle.moves.specs.CopyMoves.{laterSpots, Roomy}
+use Rattle.moves.specs.Step.{Shown}
+use Rattle.offers.specs.declared.seek.Sighting.{Sighting}
+use Rattle.moves.specs.declared.step.Next.{Next}
 
 -- A thread of a state, and one of its offers.
 pub record Party : Type 0 where

@@ -1,12 +1,12 @@
 // Silent steps of two threads: the next pair of a sender and a taker ("Steps").
-use crate::hand;
-use crate::seek;
-use crate::seek::Sighting;
-use crate::step::Actor;
-use crate::step::Label;
-use crate::step::Next;
-use crate::step::Step;
-use states::task::Quest;
+use moves::step::Actor;
+use moves::step::Label;
+use moves::step::Next;
+use moves::step::Step;
+use offers::hand;
+use offers::seek;
+use offers::seek::Sighting;
+use threads::task::Quest;
 ghost use mathlib.Core.Path.{_≡_};
 ghost use Prim.Native.Nat.{_≤_};
 ghost use lib.ListN.{length};

@@ -1,16 +1,17 @@
 // The steps of a state one after the other, for each label ("Steps").
-use crate::labelled;
 use crate::silent;
-use crate::step::Actor;
-use crate::step::Label;
-use crate::step::Next;
-use crate::step::Step;
+use moves::step::Actor;
+use moves::step::Label;
+use moves::step::Next;
+use moves::step::Step;
+use offers::labelled;
 use states::state::State;
 ghost use mathlib.Core.Path.{_≡_};
 ghost use Prim.Native.Nat.{_≤_};
 ghost use lib.ListN.{length};
 ghost use Rattle.messages.specs.Buffer.{Within};
-ghost use Rattle.steps.specs.Next.{modeBefore, before, Nexts};
+ghost use Rattle.moves.specs.Behind.{modeBefore, before};
+ghost use Rattle.steps.specs.Next.{Nexts};
 
 // Where the search for silent steps begins is no place of a step: two copies of no repl thread.
 fn mode(label: Label) -> usize

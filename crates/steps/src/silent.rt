@@ -1,11 +1,11 @@
 // The next silent step: those of single threads in their copies come first, then those of two threads ("Steps").
 use crate::between;
-use crate::joint;
-use crate::step::Next;
-use crate::step::Step;
+use meetings::joint;
+use moves::step::Next;
+use moves::step::Step;
 use states::state::State;
 ghost use mathlib.Core.Path.{_≡_};
-ghost use Prim.Native.Nat.{_+_, _≤_};
+ghost use Prim.Native.Nat.{_≤_};
 ghost use lib.ListN.{length};
 ghost use Rattle.messages.specs.Buffer.{Within};
 ghost use Rattle.steps.specs.Next.{placeOf, NextBetween, NextJoint, NextSilent};

@@ -1,5 +1,5 @@
-pub mod Located
-pub mod Joint
-pub mod Sought
-pub mod Rebuilt
-pub mod Theorems
+pub mod Settled
+pub mod News
+pub mod Walk
+pub mod Form
+pub mod Visit

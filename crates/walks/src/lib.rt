@@ -1,1 +1,5 @@
-// What the walks of `states` find and write, told against the definitions: theorems in proofs/, stated in specs/. This crate has no code.
+// The walk over a process, which settles it and does what its task says at each thread, copies included, and the states that are formed by
+// it ("Steps"; "Judging and its count").
+pub mod form;
+pub mod visit;
+pub mod walk;

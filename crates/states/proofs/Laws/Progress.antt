@@ -1,6 +1,6 @@
 -- What a walk has come to, carried over a call that changes a part of it ("Steps"). Assumes nothing.
 use mathlib.Core.Path.{_≡_, refl, sym, _∙_}
-use mathlib.Core.Bool.{true, false, true≢false}
+use mathlib.Core.Bool.{false, true≢false}
 use mathlib.Core.List.{List}
 use Prim.Native.Nat.{ℕ, _+_, _≤_}
 use native.Mathlib.Omega.{arith}
@@ -8,8 +8,8 @@ use lib.ListN.{length, drop-of-length-le}
 use Rattle.messages.specs.Buffer.{Within}
 use Rattle.messages.proofs.Laws.Buffer.{kept, one-after}
 use Rattle.states.specs.Course.{Going, named}
-use Rattle.states.specs.Walk.{Shows}
-use Rattle.states.specs.Inner.{SameState, Extends, Stopped, Renamed, Hits}
+use Rattle.states.specs.Shown.{Shows}
+use Rattle.states.specs.Progress.{SameState, Extends, Stopped, Renamed, Hits}
 use Rattle.states.specs.declared.progress.Progress.{Progress}
 
 -- A walk that goes on has met no limit.

@@ -18,10 +18,11 @@ use Rattle.messages.proofs.Laws.Buffer.{kept, part, wider}
 use Rattle.terms.specs.Bound.{encodeBound, BoundTo}
 use Rattle.terms.proofs.Theorems.{boundLength}
 use Rattle.states.specs.Record.{Placed, boundOf, encodeRecord, encodeRecords, Standing, NodesOf, Written}
-use Rattle.states.specs.Room.{Room, Grows}
+use Rattle.states.specs.Room.{Grows}
 use Rattle.states.specs.Course.{Going, Course, going, over-limit, unless, push}
-use Rattle.states.specs.Walk.{Shows, ShowsCourse}
-use Rattle.states.specs.Inner.{Extends, Stopped, Pushes}
+use Rattle.states.specs.Shown.{Shows, ShowsCourse}
+use Rattle.states.specs.Progress.{Extends, Stopped}
+use Rattle.states.specs.Written.{Pushes}
 use Rattle.states.specs.declared.progress.Progress.{Progress}
 use Rattle.states.specs.declared.state.State.{State}
 use Rattle.states.specs.declared.state.Grown.{Grown}

@@ -2,7 +2,7 @@
 use mathlib.Core.Path.{_≡_, refl, sym, ap, _∙_}
 use mathlib.Core.Bool.{true}
 use mathlib.Core.Logic.{_⊎_, inr}
-use mathlib.Core.List.{List, [], _∷_, _++_}
+use mathlib.Core.List.{List, [], _∷_}
 use Prim.Native.Nat.{ℕ, _+_, _-_, _≤_, _<_}
 use native.Mathlib.Omega.{arith}
 use lib.ListN.{length, take, drop, length-append, length-drop, length-take}
@@ -17,7 +17,7 @@ use Rattle.terms.specs.Bound.{encodeBound}
 use Rattle.meaning.specs.Judging.Limits.{boundNodes}
 use Rattle.states.specs.Record.{Placed, boundOf, encodeRecord, NodesOf}
 use Rattle.states.specs.Room.{Grows}
-use Rattle.states.specs.Inner.{Stopped}
+use Rattle.states.specs.Progress.{Stopped}
 use Rattle.states.specs.Stored.{Fetched, Loads, Keeps}
 use Rattle.states.specs.declared.progress.Progress.{Progress}
 use Rattle.states.specs.declared.state.State.{State}

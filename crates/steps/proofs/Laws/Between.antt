@@ -17,20 +17,20 @@ use Rattle.meaning.proofs.Messages.{normalForms}
 use Rattle.meaning.proofs.Every.{every-map}
 use Rattle.messages.specs.Encoding.{encodeNode, encodeMessage}
 use Rattle.states.specs.Record.{Placed, encodeRecords}
-use Rattle.walks.specs.Joint.{messageOf}
-use Rattle.steps.specs.Spot.{spotsFrom, recordAt, offersOf}
-use Rattle.steps.specs.Threads.{Threads}
-use Rattle.steps.specs.Visit.{Labelled}
-use Rattle.steps.specs.Seek.{Sight, Sees, ShowsSight, Seeks}
-use Rattle.steps.specs.Meet.{outputs, inputs, channelOf}
-use Rattle.steps.specs.Silent.{Roomy}
-use Rattle.steps.specs.Step.{Shown, stepOf, runOf}
+use Rattle.positions.specs.Joint.{messageOf}
+use Rattle.moves.specs.Spot.{spotsFrom, recordAt, offersOf}
+use Rattle.moves.specs.Threads.{Threads}
+use Rattle.walks.specs.Visit.{Labelled}
+use Rattle.offers.specs.Seek.{Sight, Sees, ShowsSight, Seeks}
+use Rattle.moves.specs.CopyOffers.{outputs, inputs, channelOf}
+use Rattle.moves.specs.CopyMoves.{Roomy}
+use Rattle.moves.specs.Step.{Shown, stepOf, runOf}
 use Rattle.steps.specs.Between.{Party, partiesFrom, sendersFrom, offeredTo, meetingOf, takersFrom, sightOf, Ahead, Follows, Sends, Takes}
-use Rattle.steps.specs.declared.seek.Sighting.{Sighting}
-use Rattle.steps.specs.declared.step.Next.{Next}
-use Rattle.steps.specs.declared.step.Next.the-variants.{None, Found}
-use Rattle.steps.specs.declared.step.Label.the-variants.{Silent}
-use Rattle.steps.proofs.Laws.Front.{whole}
+use Rattle.offers.specs.declared.seek.Sighting.{Sighting}
+use Rattle.moves.specs.declared.step.Next.{Next}
+use Rattle.moves.specs.declared.step.Next.the-variants.{None, Found}
+use Rattle.moves.specs.declared.step.Label.the-variants.{Silent}
+use Rattle.moves.proofs.Laws.Front.{whole}
 use Rattle.steps.proofs.Laws.BetweenLists.{parties-all}
 use Rattle.steps.proofs.Laws.BetweenOffers.{Sending, sending-all}
 use Rattle.steps.proofs.Laws.BetweenSought.{threads-behind, Seated, spots-seated, first-among, nothing-skipped, sender-skipped}

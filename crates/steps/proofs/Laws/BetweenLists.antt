@@ -12,14 +12,14 @@ use Rattle.meaning.specs.Bytes.Process.{Prefix, output, input}
 use Rattle.meaning.specs.Places.{Every, none, _also_}
 use Rattle.meaning.proofs.Every.{every-map, every-joined, every-parts}
 use Rattle.states.specs.Record.{Placed}
-use Rattle.states.specs.declared.task.Quest.{Quest}
-use Rattle.walks.specs.Located.{Acting}
-use Rattle.walks.specs.Sought.{wanted}
-use Rattle.walks.proofs.Laws.Increasing.{Increasing, first, end, increasing-above}
-use Rattle.steps.specs.Spot.{Spot, spotsFrom, filter}
-use Rattle.steps.specs.Silent.{laterSpots}
+use Rattle.threads.specs.declared.task.Quest.{Quest}
+use Rattle.positions.specs.Located.{Acting}
+use Rattle.positions.specs.Sought.{wanted}
+use Rattle.positions.proofs.Laws.Increasing.{Increasing, first, end, increasing-above}
+use Rattle.moves.specs.Spot.{Spot, spotsFrom, filter}
+use Rattle.moves.specs.CopyMoves.{laterSpots}
 use Rattle.steps.specs.Between.{Party, partiesFrom}
-use Rattle.steps.proofs.Laws.MovesLists.{every-mapped}
+use Rattle.moves.proofs.Laws.MovesLists.{every-mapped}
 
 -- A list in two parts, cut at an element of one of them.
 pub data Cutting {A : Type 0} (xs ys before : List A) (w : A) (others : List A) : Type 0 where

@@ -15,21 +15,21 @@ use Rattle.meaning.specs.Steps.State.{worked}
 use Rattle.meaning.proofs.Messages.Same.{same-sound, same-refl}
 use Rattle.meaning.proofs.Test.{T-alike}
 use Rattle.states.specs.Record.{Placed}
-use Rattle.states.specs.declared.task.Quest.{Quest}
-use Rattle.walks.specs.Located.{Acting}
-use Rattle.walks.specs.Joint.{Pair, matching}
-use Rattle.walks.specs.Sought.{wanted}
-use Rattle.walks.proofs.Laws.Block.{flatMap-map, map-flatMap}
-use Rattle.walks.proofs.Laws.Increasing.{Increasing, end}
-use Rattle.steps.specs.Spot.{Spot, spots, offersOf, filter}
-use Rattle.steps.specs.Moves.{Move, alone, inside, between, others, takers, meetings}
-use Rattle.steps.specs.Outcome.{same}
-use Rattle.steps.specs.Meet.{outputs, inputs, channelOf}
-use Rattle.steps.specs.Silent.{laterSpots}
+use Rattle.threads.specs.declared.task.Quest.{Quest}
+use Rattle.positions.specs.Located.{Acting}
+use Rattle.positions.specs.Joint.{Pair, matching}
+use Rattle.positions.specs.Sought.{wanted}
+use Rattle.positions.proofs.Laws.Block.{flatMap-map, map-flatMap}
+use Rattle.positions.proofs.Laws.Increasing.{Increasing, end}
+use Rattle.moves.specs.Spot.{Spot, spots, offersOf, filter}
+use Rattle.moves.specs.Moves.{Move, alone, inside, between, others, takers, meetings}
+use Rattle.moves.specs.Outcome.{same}
+use Rattle.moves.specs.CopyOffers.{outputs, inputs, channelOf}
+use Rattle.moves.specs.CopyMoves.{laterSpots}
 use Rattle.steps.specs.Between.{Party, partiesFrom, sendersFrom, offeredTo, meetingOf, takersFrom, meetingsFrom, betweenFrom}
 use Rattle.steps.specs.Between.{BetweenAll, BetweenResumed}
-use Rattle.steps.proofs.Laws.MovesLists.{flatMap-flatMap, flatMap-none, flatMap-filter}
-use Rattle.steps.proofs.Laws.Moves.{prefixed}
+use Rattle.moves.proofs.Laws.MovesLists.{flatMap-flatMap, flatMap-none, flatMap-filter}
+use Rattle.moves.proofs.Laws.Moves.{prefixed}
 use Rattle.steps.proofs.Laws.BetweenLists.{Cutting, left, right, cutting, no-cut, MapCut, map-cut, since, party, parties-resumed}
 use Rattle.steps.proofs.Laws.BetweenOnward.{offers-increase, senders-resumed}
 

@@ -24,20 +24,20 @@ use Rattle.messages.specs.Encoding.{encodeMessage}
 use Rattle.messages.proofs.Theorems.{runLength}
 use Rattle.states.specs.Place.{thenAt, elseAt}
 use Rattle.states.specs.Record.{Placed, processOf, boundOf, Standing}
-use Rattle.states.specs.News.{laterNews}
-use Rattle.states.proofs.Laws.Fits.{later-fewer}
-use Rattle.walks.specs.Located.{Acting, acting}
-use Rattle.walks.specs.Joint.{messageOf}
-use Rattle.walks.specs.Sought.{wanted, sentBy}
-use Rattle.walks.proofs.Laws.Located.{inside-bounds, acting-inside}
-use Rattle.walks.proofs.Laws.Everywhere.{every-and}
-use Rattle.steps.specs.Spot.{offersOf}
-use Rattle.steps.specs.Threads.{Judged}
-use Rattle.steps.specs.Meet.{outputs, channelOf}
-use Rattle.steps.proofs.Laws.LimitsLeft.{Clear, clear-copy}
-use Rattle.steps.proofs.Laws.Moves.{prefixed}
-use Rattle.steps.proofs.Laws.Opened.{Acts, acting-all, judged-clear}
-use Rattle.steps.proofs.Laws.Visit.{news-short}
+use Rattle.walks.specs.News.{laterNews}
+use Rattle.walks.proofs.Laws.Fits.{later-fewer}
+use Rattle.positions.specs.Located.{Acting, acting}
+use Rattle.positions.specs.Joint.{messageOf}
+use Rattle.positions.specs.Sought.{wanted, sentBy}
+use Rattle.positions.proofs.Laws.Located.{inside-bounds, acting-inside}
+use Rattle.positions.proofs.Laws.Everywhere.{every-and}
+use Rattle.moves.specs.Spot.{offersOf}
+use Rattle.moves.specs.Threads.{Judged}
+use Rattle.moves.specs.CopyOffers.{outputs, channelOf}
+use Rattle.moves.proofs.Laws.LimitsLeft.{Clear, clear-copy}
+use Rattle.moves.proofs.Laws.Moves.{prefixed}
+use Rattle.moves.proofs.Laws.Opened.{Acts, acting-all, judged-clear}
+use Rattle.walks.proofs.Laws.Visit.{news-short}
 
 -- Neither the channel of an offer nor its message is over the limit.
 pub record Fair (a : Acting) : Type 0 where

@@ -15,26 +15,26 @@ use Rattle.messages.specs.Encoding.{encodeMessage}
 use Rattle.messages.specs.Buffer.{Within}
 use Rattle.messages.proofs.Laws.Buffer.{part}
 use Rattle.states.specs.Record.{Placed, encodeRecords}
-use Rattle.states.specs.Walk.{encodeMessages}
-use Rattle.walks.specs.Joint.{messageOf}
-use Rattle.walks.proofs.Laws.Increasing.{Increasing, increasing-lower, acting-increasing}
-use Rattle.steps.specs.Spot.{Spot, spots, spotsFrom, recordAt, offersOf}
-use Rattle.steps.specs.Threads.{Threads}
-use Rattle.steps.specs.Visit.{Labelled}
-use Rattle.steps.specs.Moves.{Move}
-use Rattle.steps.specs.Seek.{Sees, ShowsSight}
-use Rattle.steps.specs.Hand.{Hands}
-use Rattle.steps.specs.Meet.{outputs, channelOf}
-use Rattle.steps.specs.Silent.{laterSpots, Roomy}
-use Rattle.steps.specs.Step.{Shown}
+use Rattle.states.specs.Shown.{encodeMessages}
+use Rattle.positions.specs.Joint.{messageOf}
+use Rattle.positions.proofs.Laws.Increasing.{Increasing, increasing-lower, acting-increasing}
+use Rattle.moves.specs.Spot.{Spot, spots, spotsFrom, recordAt, offersOf}
+use Rattle.moves.specs.Threads.{Threads}
+use Rattle.walks.specs.Visit.{Labelled}
+use Rattle.moves.specs.Moves.{Move}
+use Rattle.offers.specs.Seek.{Sees, ShowsSight}
+use Rattle.offers.specs.Hand.{Hands}
+use Rattle.moves.specs.CopyOffers.{outputs, channelOf}
+use Rattle.moves.specs.CopyMoves.{laterSpots, Roomy}
+use Rattle.moves.specs.Step.{Shown}
 use Rattle.steps.specs.Between.{Party, sendersFrom, takersFrom, meetingsFrom, betweenFrom, sightOf, Ahead, Follows, Sends, Takes, Pairs}
 use Rattle.steps.specs.Between.{Onward, Betweens}
-use Rattle.steps.specs.declared.hand.Handed.{Handed}
-use Rattle.steps.specs.declared.seek.Sighting.{Sighting}
-use Rattle.steps.specs.declared.step.Next.{Next}
-use Rattle.steps.specs.declared.step.Next.the-variants.{None, Found}
-use Rattle.steps.specs.declared.step.Step as code
-use Rattle.steps.proofs.Laws.Threads.{threads-kept}
+use Rattle.offers.specs.declared.hand.Handed.{Handed}
+use Rattle.offers.specs.declared.seek.Sighting.{Sighting}
+use Rattle.moves.specs.declared.step.Next.{Next}
+use Rattle.moves.specs.declared.step.Next.the-variants.{None, Found}
+use Rattle.moves.specs.declared.step.Step as code
+use Rattle.moves.proofs.Laws.Threads.{threads-kept}
 use Rattle.steps.proofs.Laws.BetweenLists.{Resumes, parties-resumed}
 use Rattle.steps.proofs.Laws.BetweenSought.{Placing, parties-placed, threads-behind}
 use Rattle.steps.proofs.Laws.Between.{first-of, sender-known}

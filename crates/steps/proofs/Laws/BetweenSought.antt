@@ -12,18 +12,18 @@ use Rattle.meaning.specs.Messages.Term.{Message}
 use Rattle.meaning.specs.Places.{Every, none, _also_}
 use Rattle.meaning.proofs.Every.{every-map, every-joined}
 use Rattle.states.specs.Record.{Placed, encodeRecord, encodeRecords, Standing}
-use Rattle.states.specs.declared.task.Quest.{Quest}
-use Rattle.walks.specs.Located.{Acting}
-use Rattle.walks.specs.Sought.{wanted}
-use Rattle.steps.specs.Spot.{Spot, spotsFrom, recordAt, offersOf, filter}
-use Rattle.steps.specs.Threads.{Judged, Threads}
-use Rattle.steps.specs.Seek.{Sight, seen, firstOf, firstAmong}
-use Rattle.steps.specs.Outcome.{same}
+use Rattle.threads.specs.declared.task.Quest.{Quest}
+use Rattle.positions.specs.Located.{Acting}
+use Rattle.positions.specs.Sought.{wanted}
+use Rattle.moves.specs.Spot.{Spot, spotsFrom, recordAt, offersOf, filter}
+use Rattle.moves.specs.Threads.{Judged, Threads}
+use Rattle.offers.specs.Seek.{Sight, seen, firstOf, firstAmong}
+use Rattle.moves.specs.Outcome.{same}
 use Rattle.steps.specs.Between.{Party, partiesFrom, sightOf}
-use Rattle.steps.proofs.Laws.Threads.{first-thread}
-use Rattle.steps.proofs.Laws.Front.{record-size, records-further, whole, same-record, other-record}
-use Rattle.steps.proofs.Laws.Seek.{among-skipped, among-sought}
-use Rattle.steps.proofs.Laws.MovesLists.{every-mapped}
+use Rattle.moves.proofs.Laws.Threads.{first-thread}
+use Rattle.moves.proofs.Laws.Front.{record-size, records-further, whole, same-record, other-record}
+use Rattle.offers.proofs.Laws.Seek.{among-skipped, among-sought}
+use Rattle.moves.proofs.Laws.MovesLists.{every-mapped}
 use Rattle.steps.proofs.Laws.BetweenLists.{since, party, wanted-since, filter-every}
 
 -- The threads behind others stand behind their records.

@@ -1,33 +1,32 @@
 -- The next step of whichever label ("Steps"). Assumes nothing.
 use mathlib.Core.Path.{_≡_, refl, sym, subst}
 use mathlib.Core.Bool.{Bool, true, false}
-use mathlib.Core.List.{List, [], _∷_, _++_}
-use Prim.Native.Nat.{ℕ, _+_, _≤_}
+use mathlib.Core.List.{List, [], _∷_}
+use Prim.Native.Nat.{ℕ}
 use native.Mathlib.Omega.{arith}
 use lib.ListN.{length}
 use Rattle.meaning.specs.Messages.Term.{Message}
 use Rattle.meaning.specs.Bytes.Process.{Prefix, output, input}
 use Rattle.meaning.specs.Bytes.Standing.{Stands}
-use Rattle.meaning.specs.Places.{Every, none, _also_}
+use Rattle.meaning.specs.Places.{_also_}
 use Rattle.meaning.specs.Steps.State.{State}
 use Rattle.messages.specs.Buffer.{Within}
 use Rattle.states.specs.declared.state.State as code
-use Rattle.walks.specs.Located.{Acting}
-use Rattle.steps.specs.Spot.{Spot}
-use Rattle.steps.specs.Moves.{Move, alone, inside, between, labelledMoves, silentMoves}
-use Rattle.steps.specs.Visit.{Labelled}
-use Rattle.steps.specs.Held.{Held}
-use Rattle.steps.specs.Step.{runOf, Shown}
-use Rattle.steps.specs.Silent.{Roomy}
-use Rattle.steps.specs.Labelled.{Told, ShowsNext, NextLabelled}
-use Rattle.steps.specs.Next.{movesOf, modeBefore, nobodyAt, before, Behind, all, later, Searching, Nexts, NextFrom, NextSilent}
-use Rattle.steps.specs.declared.step.Step as step
-use Rattle.steps.specs.declared.step.Label.{Label}
-use Rattle.steps.specs.declared.step.Label.the-variants.{Output, Input, Silent}
-use Rattle.steps.specs.declared.step.Next.{Next}
-use Rattle.steps.proofs.Laws.Moves.{prefixed}
-use Rattle.steps.proofs.Laws.Start.{held-threads}
-use Rattle.steps.proofs.Laws.Cursor.{labelOf, Asked, first-shown, later-shown}
+use Rattle.moves.specs.Moves.{Move, alone, inside, between, labelledMoves}
+use Rattle.walks.specs.Visit.{Labelled}
+use Rattle.moves.specs.Held.{Held}
+use Rattle.moves.specs.Step.{runOf, Shown}
+use Rattle.moves.specs.CopyMoves.{Roomy}
+use Rattle.offers.specs.Labelled.{Told, ShowsNext, NextLabelled}
+use Rattle.moves.specs.Behind.{movesOf, modeBefore, nobodyAt, before, Behind, all, later, Searching}
+use Rattle.steps.specs.Next.{Nexts, NextSilent}
+use Rattle.moves.specs.declared.step.Step as step
+use Rattle.moves.specs.declared.step.Label.{Label}
+use Rattle.moves.specs.declared.step.Label.the-variants.{Output, Input, Silent}
+use Rattle.moves.specs.declared.step.Next.{Next}
+use Rattle.moves.proofs.Laws.Moves.{prefixed}
+use Rattle.moves.proofs.Laws.Start.{held-threads}
+use Rattle.offers.proofs.Laws.Cursor.{labelOf, Asked, first-shown, later-shown}
 
 -- What is told of a message is that its run stands.
 told-run : (said : List ℕ) (w : Move) → Told said w → Stands said 0 (runOf w) (length (runOf w))

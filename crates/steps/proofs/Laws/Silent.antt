@@ -1,39 +1,40 @@
 -- The next silent step among all of them ("Steps"). Assumes nothing.
-use mathlib.Core.Path.{_≡_, refl, sym, ap, subst, _∙_}
+use mathlib.Core.Path.{_≡_, refl, sym, subst, _∙_}
 use mathlib.Core.Logic.{inl, inr}
-use mathlib.Core.List.{List, [], _∷_, _++_, map, flatMap}
-use Prim.Native.Nat.{ℕ, _+_, _-_, _*_, _≤_}
+use mathlib.Core.List.{List, [], _∷_, _++_, flatMap}
+use Prim.Native.Nat.{ℕ, _+_, _-_, _≤_}
 use native.Mathlib.Omega.{arith}
 use lib.ListN.{length, length-append}
-use Rattle.meaning.specs.Places.{Every, none, _also_}
-use Rattle.meaning.proofs.Every.{every-map, every-split, every-parts}
+use Rattle.meaning.specs.Places.{Every}
+use Rattle.meaning.proofs.Every.{every-split}
 use Rattle.messages.specs.Buffer.{Within}
 use Rattle.states.specs.Record.{Placed, encodeRecord, encodeRecords}
 use Rattle.states.specs.declared.state.State as code
-use Rattle.walks.specs.Joint.{Pair, Joint}
-use Rattle.walks.specs.Sought.{Opened}
-use Rattle.walks.proofs.Laws.Copies.{split-joined, split-at}
-use Rattle.walks.proofs.Laws.Everywhere.{every-mapped, every-flatMap}
-use Rattle.steps.specs.Spot.{Spot, spots, spotsFrom, recordAt, copiesOf, jointsOf}
-use Rattle.steps.specs.Moves.{Move, alone, inside, between, meetings, silentMoves}
-use Rattle.steps.specs.Threads.{Threads}
-use Rattle.steps.specs.Step.{stepOf, modeOf, Shown}
-use Rattle.steps.specs.Silent.{copyMoves, laterSpots, Roomy, Joins}
-use Rattle.steps.specs.Resumption.{Resumed}
-use Rattle.steps.specs.Between.{betweenFrom, Betweens}
-use Rattle.steps.specs.Next.{before, Behind, all, later, placeOf, NextFrom}
-use Rattle.steps.specs.declared.step.Step as step
-use Rattle.steps.specs.declared.step.Label.the-variants.{Silent}
-use Rattle.steps.specs.declared.step.Next.{Next}
-use Rattle.steps.specs.declared.step.Next.the-variants as next
-use Rattle.steps.proofs.Laws.Threads.{first-thread, threads-kept}
-use Rattle.steps.proofs.Laws.CopyMoves.{copyMovesAll, silentMoves-parts}
-use Rattle.steps.proofs.Laws.CopyMovesLists.{split-parts}
-use Rattle.steps.proofs.Laws.CopyMovesResumed.{copyMovesResumed}
-use Rattle.steps.proofs.Laws.CopyMovesSilent.{Shared, both, everywhere, meetings-shared}
+use Rattle.positions.specs.Joint.{Pair, Joint}
+use Rattle.positions.proofs.Laws.Copies.{split-joined, split-at}
+use Rattle.positions.proofs.Laws.Everywhere.{every-mapped, every-flatMap}
+use Rattle.moves.specs.Spot.{Spot, spots, spotsFrom, copiesOf, jointsOf}
+use Rattle.moves.specs.Moves.{Move, inside, between, meetings, silentMoves}
+use Rattle.moves.specs.Threads.{Threads}
+use Rattle.moves.specs.Step.{stepOf, Shown}
+use Rattle.moves.specs.CopyMoves.{copyMoves, Roomy}
+use Rattle.meetings.specs.Joint.{Joins}
+use Rattle.moves.specs.Resumption.{Resumed}
+use Rattle.steps.specs.Between.{Betweens}
+use Rattle.moves.specs.Behind.{before, Behind, all, later}
+use Rattle.steps.specs.Next.{placeOf, NextFrom}
+use Rattle.moves.specs.declared.step.Step as step
+use Rattle.moves.specs.declared.step.Label.the-variants.{Silent}
+use Rattle.moves.specs.declared.step.Next.{Next}
+use Rattle.moves.specs.declared.step.Next.the-variants as next
+use Rattle.moves.proofs.Laws.Threads.{first-thread, threads-kept}
+use Rattle.moves.proofs.Laws.CopyMoves.{copyMovesAll, silentMoves-parts}
+use Rattle.moves.proofs.Laws.CopyMovesLists.{split-parts}
+use Rattle.moves.proofs.Laws.CopyMovesResumed.{copyMovesResumed}
+use Rattle.moves.proofs.Laws.CopyMovesSilent.{Shared, both, everywhere, meetings-shared}
 use Rattle.steps.proofs.Laws.BetweenMoves.{betweenAll, betweenResumed}
-use Rattle.steps.proofs.Laws.Groups.{few-groups}
-use Rattle.steps.proofs.Laws.Joint.{shown-more, shown-next, thread-at}
+use Rattle.meetings.proofs.Laws.Groups.{few-groups}
+use Rattle.meetings.proofs.Laws.Joint.{shown-more, shown-next, thread-at}
 
 -- The steps of two threads.
 abbrev pub meetingsAll : (k : ℕ) → List Placed → List Move

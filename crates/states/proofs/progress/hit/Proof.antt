@@ -1,6 +1,6 @@
 -- `states::progress::hit` meets its contract. Assumes nothing.
 use borrow.Author.Needs.{needs}
-use Rattle.states.proofs.Laws.Small.{found-there}
+use Rattle.states.proofs.Laws.Renaming.{found-there}
 use Rattle.states.proofs.progress.hit.Statement.{statement}
 use Rattle.states.proofs.progress.hit.Tie as tie
 

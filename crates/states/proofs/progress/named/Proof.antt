@@ -1,6 +1,6 @@
 -- `states::progress::named` meets its contract. Assumes nothing.
 use borrow.Author.Needs.{needs}
-use Rattle.states.proofs.Laws.Small.{names}
+use Rattle.states.proofs.Laws.Renaming.{names}
 use Rattle.states.proofs.progress.named.Statement.{statement}
 use Rattle.states.proofs.progress.named.Tie as tie
 

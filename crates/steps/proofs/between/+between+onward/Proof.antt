@@ -4,7 +4,7 @@ use Prim.Native.Nat.{ℕ, _+_, _-_, _*_, _<_}
 use borrow.Author.Needs.{needs}
 use borrow.Fn.Kinds.{In}
 use borrow.Fn.PlainCycle.{Measures, is, falls, and}
-use Rattle.states.proofs.Laws.Frame.{to-ends}
+use Rattle.states.proofs.Laws.Progress.{to-ends}
 use Rattle.steps.proofs.Laws.BetweenOnward.{betweens, onward-found, onward-none, ahead-falls}
 use Rattle.steps.proofs.between.between.Reads as between
 use Rattle.steps.proofs.between.between.Kinds as between-kinds

@@ -1,7 +1,7 @@
 -- `steps::between::pair` meets its contract. Assumes nothing.
 use mathlib.Core.Path.{refl}
 use borrow.Author.Needs.{needs}
-use Rattle.states.proofs.Laws.Frame.{to-ends}
+use Rattle.states.proofs.Laws.Progress.{to-ends}
 use Rattle.steps.proofs.Laws.BetweenOnward.{still-fits, pairs}
 use Rattle.steps.proofs.between.pair.Statement.{statement}
 use Rattle.steps.proofs.between.pair.Tie as tie

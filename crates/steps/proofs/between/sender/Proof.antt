@@ -1,7 +1,7 @@
 -- `steps::between::sender` meets its contract. Assumes nothing.
 use borrow.Author.Needs.{needs}
 use Rattle.steps.proofs.Laws.Between.{sends}
-use Rattle.states.proofs.Laws.Frame.{to-ends}
+use Rattle.states.proofs.Laws.Progress.{to-ends}
 use Rattle.steps.proofs.between.sender.Statement.{statement}
 use Rattle.steps.proofs.between.sender.Tie as tie
 

@@ -1,7 +1,7 @@
 -- `steps::between::take` meets its contract. Assumes nothing.
 use borrow.Author.Needs.{needs}
 use Rattle.steps.proofs.Laws.Between.{takings}
-use Rattle.states.proofs.Laws.Frame.{to-ends}
+use Rattle.states.proofs.Laws.Progress.{to-ends}
 use Rattle.steps.proofs.between.take.Statement.{statement}
 use Rattle.steps.proofs.between.take.Tie as tie
 

@@ -1,6 +1,6 @@
 -- `steps::silent::first` meets its contract. Assumes nothing.
 use borrow.Author.Needs.{needs}
-use Rattle.states.proofs.Laws.Frame.{to-ends}
+use Rattle.states.proofs.Laws.Progress.{to-ends}
 use Rattle.steps.proofs.Laws.Silent.{silents}
 use Rattle.steps.proofs.silent.first.Statement.{statement}
 use Rattle.steps.proofs.silent.first.Tie as tie

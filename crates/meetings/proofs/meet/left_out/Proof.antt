@@ -1,0 +1,10 @@
+-- `meetings::meet::left_out` meets its contract. Assumes nothing.
+use borrow.Author.Needs.{needs}
+use Rattle.meetings.proofs.Laws.Taken.{marks-left}
+use Rattle.meetings.proofs.meet.left_out.Statement.{statement}
+use Rattle.meetings.proofs.meet.left_out.Tie as tie
+
+pub left-out-spec : {M : Type 1} → statement M
+left-out-spec = tie.close (tie.spec
+    (λ c. search (needs, marks-left))
+    (λ c. search (needs, marks-left)))

@@ -1,0 +1,50 @@
+-- The next silent step of the threads of a state in their copies ("Steps"). Assumes nothing.
+use mathlib.Core.Path.{_≡_}
+use mathlib.Core.Bool.{true, false}
+use mathlib.Core.List.{List, [], _∷_, _++_, flatMap}
+use Prim.Native.Nat.{ℕ, _+_, _*_, _≤_}
+use lib.Dec.{eqb}
+use lib.ListN.{length}
+use Rattle.states.specs.Record.{Placed, encodeRecords}
+use Rattle.positions.specs.Sought.{Opened}
+use Rattle.moves.specs.Spot.{Spot, spotsFrom, recordAt, copiesOf}
+use Rattle.moves.specs.Threads.{Threads}
+use Rattle.moves.specs.CopyOffers.{ThreadAt, pairsFrom, senders, moved}
+use Rattle.moves.specs.Step.{Shown}
+use Rattle.moves.specs.declared.step.Next.{Next}
+use Rattle.states.specs.declared.progress.Progress.{Progress}
+use Rattle.moves.specs.CopyMoves.{groupMoves, copyMoves, laterSpots, copyMovesFrom, Roomy}
+
+-- The answer is the first of what is left: from the first repl thread of the threads ts on, where no repl thread is meant; or from a repl
+-- thread of the first of them on.
+pub record Joins (s : List ℕ) (at k to : ℕ) (m : List ℕ) (copy mode x y left : ℕ) (out message : List ℕ) (r : Next) (said : List ℕ) : Type 0
+  where
+    pub first : (start : ℕ) (ls ts : List Placed) → Threads s out at k ts to → Roomy s out m message k to
+        → at ≡ start + length (encodeRecords ls) → copy ≡ 0 → mode ≡ 2
+        → 8193 ≤ left → Shown start said r (copyMoves k (spotsFrom ls ts))
+    pub later : (start : ℕ) (p : Spot) (pre post : List Opened) (w : Opened) → Threads s out at k (p .thread ∷ p .behind) to
+        → Roomy s out m message k to → at ≡ recordAt start p → copiesOf (p .thread) k ≡ pre ++ (w ∷ post) → copy ≡ w .place + 1
+        → 1 ≤ mode → mode ≤ 2 → 2 * length post + 3 ≤ left + mode → Shown start said r (copyMovesFrom k p mode w post x y)
+
+-- The next repl thread after the one at a mark, or the first one; a walk that goes on has found none.
+abbrev pub ShowsCopy : Progress → List Opened → Type 0
+ShowsCopy r [] = r .going ≡ true
+ShowsCopy r (w ∷ ws) = (r .going ≡ false) × (r .mark ≡ w .place + 1)
+
+pub record Finds (s : List ℕ) (at k to : ℕ) (m : List ℕ) (copy : ℕ) (out : List ℕ) (r : Progress) : Type 0 where
+  pub first : (t : Placed) → ThreadAt s out m at k to t → copy ≡ 0 → ShowsCopy r (copiesOf t k)
+  pub later : (t : Placed) (pre post : List Opened) (w : Opened) → ThreadAt s out m at k to t → copiesOf t k ≡ pre ++ (w ∷ post)
+      → copy ≡ w .place + 1 → ShowsCopy r post
+
+-- The answer is the first of what is left behind one copy, or two.
+pub record Passes (s : List ℕ) (at k to : ℕ) (m : List ℕ) (copy mode left : ℕ) (out message : List ℕ) (r : Next) (said : List ℕ) : Type 0
+  where
+    pub first : (start : ℕ) (p : Spot) → Threads s out at k (p .thread ∷ p .behind) to → Roomy s out m message k to → at ≡ recordAt start p
+        → copy ≡ 0 → mode ≡ 2 → 8192 ≤ left
+        → Shown start said r (flatMap (groupMoves p) (copiesOf (p .thread) k) ++ copyMoves k (laterSpots p))
+    pub later : (start : ℕ) (p : Spot) (pre post : List Opened) (w : Opened) → Threads s out at k (p .thread ∷ p .behind) to
+        → Roomy s out m message k to → at ≡ recordAt start p → copiesOf (p .thread) k ≡ pre ++ (w ∷ post) → copy ≡ w .place + 1
+        → 1 ≤ mode → mode ≤ 2 → 2 * length post + 2 ≤ left + mode
+        → Shown start said r
+        ((elim (eqb mode 1) [ true ↦ moved p 2 w (pairsFrom 2 w 0 (senders w 0)) | false ↦ [] ])
+        ++ flatMap (groupMoves p) post ++ copyMoves k (laterSpots p))

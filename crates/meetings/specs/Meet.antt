@@ -1,0 +1,75 @@
+-- Silent steps in the copies of one thread: the next pair of a sender and a taker ("Steps"). Assumes nothing.
+use mathlib.Core.Path.{_≡_}
+use mathlib.Core.Bool.{true}
+use mathlib.Core.List.{List, [], _∷_, _++_}
+use Prim.Native.Nat.{ℕ, _+_, _≤_}
+use lib.ListN.{length}
+use Rattle.meaning.specs.Messages.Term.{Message}
+use Rattle.states.specs.Record.{Placed}
+use Rattle.states.specs.Shown.{Found}
+use Rattle.threads.specs.declared.task.Quest.{Quest}
+use Rattle.threads.specs.declared.task.CopyAt.{CopyAt}
+use Rattle.states.specs.declared.progress.Progress.{Progress}
+use Rattle.positions.specs.Located.{Acting}
+use Rattle.positions.specs.Sought.{wanted, sentBy, Opened}
+use Rattle.moves.specs.Spot.{Spot, recordAt, copiesOf, filter}
+use Rattle.walks.specs.Visit.{Labelled}
+use Rattle.moves.specs.Step.{Shown}
+use Rattle.moves.specs.declared.step.Next.{Next}
+use Rattle.moves.specs.declared.step.Next.the-variants.{None}
+use Rattle.moves.specs.CopyOffers.{ThreadAt, copyOffers, Later, pairsOf, pairsFrom, senders, moved}
+
+-- A walk that seeks an offer has found the first of these, or goes on where there is none.
+abbrev pub ShowsFirst : (out : List ℕ) → Progress → List Acting → Type 0
+ShowsFirst out r [] = r .going ≡ true
+ShowsFirst out r (a ∷ others) = Found out r (a .place) (a .next) (sentBy a)
+
+-- Whatever thread has its record there, the answer shows the first offer that is wanted in the copies of the repl thread that is meant.
+pub record Looks (s label : List ℕ) (at k to : ℕ) (m : List ℕ) (q : Quest) (c : CopyAt) (out : List ℕ) (r : Progress) (after : List ℕ)
+    : Type 0 where
+  pub nowhere : (t : Placed) (x : Message) → ThreadAt s out m at k to t → Labelled label x → c .place ≡ 0 → c .second ≤ 28664
+      → r .going ≡ true
+  pub exact : (t : Placed) (x : Message) (pre post : List Opened) (w : Opened) → ThreadAt s out m at k to t → Labelled label x
+      → copiesOf t k ≡ pre ++ (w ∷ post) → c .place ≡ w .place + 1 → Later c w
+      → ShowsFirst after r (filter (wanted q x) (copyOffers (q .but) c w))
+
+-- The thread of a spot, with a repl thread of it.
+pub record CopyOf (s out m : List ℕ) (start at k to : ℕ) (p : Spot) (mode copy : ℕ) (w : Opened) : Type 0 where
+  pub thread : ThreadAt s out m at k to (p .thread)
+  pub position : at ≡ recordAt start p
+  pub pre : List Opened
+  pub post : List Opened
+  pub listed : copiesOf (p .thread) k ≡ pre ++ (w ∷ post)
+  pub meant : copy ≡ w .place + 1
+  pub mode-low : 1 ≤ mode
+  pub mode-high : mode ≤ 2
+
+-- The first sender from x on.
+pub record Sends (s : List ℕ) (at k to : ℕ) (m : List ℕ) (copy x : ℕ) (out : List ℕ) (r : Progress) (after : List ℕ) : Type 0 where
+  pub nowhere : (t : Placed) → ThreadAt s out m at k to t → copy ≡ 0 → r .going ≡ true
+  pub exact : (start : ℕ) (p : Spot) (w : Opened) {mode : ℕ} → CopyOf s out m start at k to p mode copy w
+      → ShowsFirst after r (senders w x)
+
+-- One sender, found already, and its takers from y on; and all senders from x on.
+pub record Pairs (s : List ℕ) (at k to : ℕ) (m : List ℕ) (copy mode : ℕ) (now : Progress) (y : ℕ) (out : List ℕ) (message : List ℕ) (r : Next)
+    (said : List ℕ) : Type 0 where
+  pub exact : (start : ℕ) (p : Spot) (w : Opened) (x : ℕ) (a : Acting) (others : List Acting) → CopyOf s out m start at k to p mode copy w
+      → senders w x ≡ a ∷ others → Found out now (a .place) (a .next) (sentBy a) → 510 ≤ length message
+      → Shown start said r (moved p mode w (pairsOf mode w y a))
+
+-- The same, the channel being copied to a slice.
+pub record PairsIn (channel s : List ℕ) (at k to : ℕ) (m : List ℕ) (copy mode : ℕ) (now : Progress) (y : ℕ) (out : List ℕ)
+    (message : List ℕ) (r : Next) (said : List ℕ) : Type 0 where
+  pub exact : 510 ≤ length channel → Pairs s at k to m copy mode now y out message r said
+
+pub record Onward (s : List ℕ) (at k to : ℕ) (m : List ℕ) (copy mode : ℕ) (now : Progress) (y : ℕ) (out : List ℕ) (message : List ℕ) (r : Next)
+    (said : List ℕ) : Type 0 where
+  pub exact : (start : ℕ) (p : Spot) (w : Opened) (x : ℕ) (a : Acting) (others : List Acting) → CopyOf s out m start at k to p mode copy w
+      → senders w x ≡ a ∷ others → Found out now (a .place) (a .next) (sentBy a) → 510 ≤ length message
+      → Shown start said r (moved p mode w (pairsFrom mode w y (a ∷ others)))
+
+pub record Meets (s : List ℕ) (at k to : ℕ) (m : List ℕ) (copy mode x y : ℕ) (out : List ℕ) (message : List ℕ) (r : Next) (said : List ℕ)
+    : Type 0 where
+  pub nowhere : (t : Placed) → ThreadAt s out m at k to t → copy ≡ 0 → r ≡ None
+  pub exact : (start : ℕ) (p : Spot) (w : Opened) → CopyOf s out m start at k to p mode copy w → 510 ≤ length message
+      → Shown start said r (moved p mode w (pairsFrom mode w y (senders w x)))

@@ -1,0 +1,25 @@
+-- The laws by which the functions meet their contracts. Assumes nothing.
+pub mod LimitsLeft
+pub mod LimitsReplaced
+pub mod Allowed
+pub mod LimitsPairs
+pub mod LimitsOutcome
+pub mod Capacity
+pub mod MovesLists
+pub mod MovesSpots
+pub mod MovesThread
+pub mod Moves
+pub mod CopyMoves
+pub mod CopyMovesLists
+pub mod CopyMovesOrder
+pub mod CopyMovesResumed
+pub mod CopyMovesSilent
+pub mod Front
+pub mod LimitsJoints
+pub mod LimitsSpots
+pub mod Limits
+pub mod MovesOthers
+pub mod MovesSilent
+pub mod Opened
+pub mod Start
+pub mod Threads

@@ -1,0 +1,49 @@
+-- A silent step in copies among all silent steps of a state: those of two threads come behind ("Steps"). Assumes nothing.
+use Prim.Native.Nat.{ℕ}
+use mathlib.Core.Path.{sym, _∙_}
+use mathlib.Core.Logic.{inl, inr}
+use mathlib.Core.List.{List, [], _∷_, flatMap}
+use Rattle.meaning.specs.Places.{Every, none, _also_}
+use Rattle.meaning.proofs.Every.{every-split}
+use Rattle.positions.specs.Located.{Acting}
+use Rattle.positions.specs.Joint.{Pair, matching, Joint}
+use Rattle.positions.proofs.Laws.Copies.{split-joined, split-at}
+use Rattle.positions.proofs.Laws.Everywhere.{every-mapped, every-flatMap}
+use Rattle.moves.specs.Spot.{Spot, spots, offersOf}
+use Rattle.moves.specs.Moves.{Move, inside, between, others, takers, meetings}
+use Rattle.moves.specs.CopyMoves.{copyMoves}
+use Rattle.moves.specs.Resumption.{SilentMovesResumed}
+use Rattle.moves.proofs.Laws.CopyMoves.{silentMoves-parts}
+use Rattle.moves.proofs.Laws.CopyMovesLists.{split-parts}
+use Rattle.moves.proofs.Laws.CopyMovesResumed.{copyMovesResumed}
+
+-- A step of two threads.
+pub data Shared : Move → Type 0 where
+  both : (p q : Spot) (v : Pair) → Shared (between p q v)
+
+pub everywhere : {A : Type 0} {Q : A → Type 0} → ((x : A) → Q x) → (xs : List A) → Every Q xs
+everywhere h [] = none
+everywhere h (x ∷ xs) = h x also everywhere h xs
+
+takers-shared : (p : Spot) (a : Acting) (qs : List Spot) → Every Shared (takers p a qs)
+unfolding takers
+takers-shared p a qs =
+    every-flatMap _ (everywhere (λ q.
+    every-mapped (between p q) (everywhere (both p q) (flatMap (matching a) (offersOf (q .thread) (a .next))))) qs)
+
+pub meetings-shared : (k : ℕ) (qs : List Spot) (p : Spot) → Every Shared (meetings k qs p)
+unfolding meetings
+meetings-shared k qs p = every-flatMap _ (everywhere (λ a. takers-shared p a (others p qs)) _)
+
+not-inside : {p : Spot} {j : Joint} → Shared (inside p j) → ⊥
+not-inside t = elim t [ ]
+
+pub silentMovesResumed : SilentMovesResumed
+silentMovesResumed k ps before after p j e =
+    elim (split-joined (copyMoves k (spots ps)) (split-at before (sym (silentMoves-parts k ps) ∙ e))) [
+      | inl t ↦
+          let (r, s, f) = t in
+          (r, copyMovesResumed k ps before r p j (split-parts s), f)
+      | inr t ↦
+          absurd (not-inside (every-split (t .1) (every-flatMap (meetings k (spots ps)) (everywhere (meetings-shared k (spots ps)) (spots ps))) .1))
+    ]

@@ -1,0 +1,109 @@
+-- The offers and the silent steps of a thread by itself, and of a list of threads, with positions ("Steps"). Assumes nothing.
+use Prim.Native.Nat.{ℕ, _+_}
+use mathlib.Core.Path.{_≡_, refl, sym, _∙_, ap, ap₂, fun-ext}
+use mathlib.Core.Bool.{true}
+use mathlib.Core.List.{List, [], _∷_, _++_, map, map-map, map-id, append-nil, flatMap}
+use borrow.Author.Tests.{eq-eqb}
+use Rattle.meaning.specs.Bytes.Process.{Prefix, Process}
+use Rattle.meaning.specs.Places.{Every, none, _also_}
+use Rattle.meaning.specs.Steps.State.{Bound, Thread, act, repl, names, settle}
+use Rattle.meaning.specs.Steps.Offer.{placed, opened}
+use Rattle.meaning.specs.Steps.Silent.{Meeting, meeting, framed}
+use Rattle.meaning.specs.Steps.Enumeration.{cuts, offers, pairsAt, silentOf, silents, offersOf as threadOffers}
+use Rattle.meaning.proofs.Every.{every-map}
+use Rattle.meaning.proofs.Steps.Enumeration.Cuts.{around, among}
+use Rattle.meaning.proofs.Steps.Enumeration.Offers.{offers-among}
+use Rattle.meaning.proofs.Steps.Enumeration.Silent.{silents-among}
+use Rattle.states.specs.Record.{Placed, processOf, boundOf}
+use Rattle.walks.specs.Settled.{threadsOf}
+use Rattle.positions.specs.Located.{acting, inside, replaced}
+use Rattle.positions.specs.Joint.{Pair, matching, actingBut, pairs, Joint, bothReplaced, left, met}
+use Rattle.positions.proofs.Laws.Located.{offers-none, offers-one, located, acting-inside, offersLocated}
+use Rattle.positions.proofs.Laws.Block.{flatMap-every}
+use Rattle.positions.proofs.Laws.Joint.{silentsLocated}
+use Rattle.moves.specs.Spot.{Spot, spots, offersOf, jointsOf}
+use Rattle.moves.proofs.Laws.MovesLists.{flatMap-none}
+use Rattle.moves.proofs.Laws.MovesSpots.{cutOf, cuts-spots}
+
+-- A thread settles to itself.
+settle-one : (t : Thread) (n : ℕ) → settle (processOf t) (boundOf t) n ≡ t ∷ []
+unfolding settle
+settle-one (act ρ p P) n = refl
+settle-one (repl ρ P) n = refl
+
+-- What is left of a thread when a list takes the place of what acts in it, at the position x.
+abbrev pub leaves : ℕ → Placed → ℕ → List Thread → List Thread
+leaves k t x z = replaced x z (processOf (t .thread)) (t .place) (boundOf (t .thread)) 0 k
+
+pub offers-thread : (k : ℕ) (t : Placed) → threadOffers (t .thread) k ≡ map (located (leaves k t)) (offersOf t k)
+offers-thread k t =
+    sym (offers-one k (t .thread)) ∙ ap (offers k) (sym (settle-one (t .thread) 0))
+    ∙ offersLocated (processOf (t .thread)) (t .place) (boundOf (t .thread)) 0 k
+
+-- Its silent steps. It makes no pair by itself.
+abbrev pub jointly : (ℕ → List Thread → List Thread) → Joint → Meeting
+jointly f w = met (w .pair) (λ x y. f (w .place) (left w x y ++ (repl (w .bound) (w .copied) ∷ [])))
+
+own-place : (p : Prefix) (P : Process) (at : ℕ) (ρ : Bound) (j : ℕ) → actingBut at (Process.act p P) at ρ 0 j ≡ []
+unfolding actingBut
+own-place p P at ρ j = rw (eq-eqb at at refl, actingBut)
+
+nobody : (t : Thread) (at k : ℕ)
+    → Every (λ a. (j : ℕ) → actingBut (a .place) (processOf t) at (boundOf t) 0 j ≡ []) (acting (processOf t) at (boundOf t) 0 k)
+unfolding acting actingBut
+nobody (act ρ p P) at k = own-place p P at ρ also none
+nobody (repl ρ P) at k =
+    every-map (λ a (e : inside (a .place) (at + 1) P ≡ true) j. rw (e, actingBut)) (acting-inside P (at + 1) ρ k (names P ρ k))
+
+no-pairs : (t : Thread) (at k : ℕ) → pairs (processOf t) at (boundOf t) 0 k ≡ []
+unfolding pairs flatMap
+no-pairs t at k =
+    flatMap-every (every-map (λ a e. ap (flatMap (matching a)) (e (a .next))) (nobody t at k))
+    ∙ flatMap-none (λ a. []) (λ a. refl) (acting (processOf t) at (boundOf t) 0 k)
+
+no-pairs-listed : (k : ℕ) (t : Thread) → flatMap (pairsAt k) (cuts (t ∷ [])) ≡ []
+unfolding cuts flatMap pairsAt
+no-pairs-listed k t =
+    append-nil _
+    ∙ flatMap-none _ (λ o. ap₂ _++_ (ap (flatMap _) (offers-none (opened o))) (ap (flatMap _) (offers-none (opened o)))) (threadOffers t k)
+
+silents-one : (k : ℕ) (t : Thread) → silents k (t ∷ []) ≡ silentOf t k
+unfolding among cuts flatMap
+silents-one k t =
+    silents-among k (t ∷ []) ∙ ap (λ r. among framed silentOf k (t ∷ []) ++ r) (no-pairs-listed k t) ∙ append-nil _ ∙ append-nil _
+    ∙ ap (λ f. map f (silentOf t k)) (fun-ext each) ∙ map-id (silentOf t k)
+  where
+    each : (w : Meeting) → framed (λ x. x ++ []) w ≡ w
+    each (meeting ρ M P σ Q f n) = ap (λ g. meeting ρ M P σ Q g n) (fun-ext λ x. fun-ext λ y. append-nil (f x y))
+
+pub silent-thread : (k : ℕ) (t : Placed) → silentOf (t .thread) k ≡ map (jointly (leaves k t)) (jointsOf t k)
+silent-thread k t =
+    let P = processOf (t .thread) in
+    let ρ = boundOf (t .thread) in
+    sym (silents-one k (t .thread)) ∙ ap (silents k) (sym (settle-one (t .thread) 0)) ∙ silentsLocated P (t .place) ρ 0 k
+    ∙ ap (λ r. map (jointly (leaves k t)) (jointsOf t k) ++ map paired r) (no-pairs (t .thread) (t .place) k) ∙ append-nil _
+  where
+    paired : Pair → Meeting
+    paired w =
+        met w (λ x y. bothReplaced (w .sender .place) x (w .taker .place) y (processOf (t .thread)) (t .place) (boundOf (t .thread)) 0 k
+        (w .sender .next))
+
+-- What is left of a list of threads.
+abbrev pub leavesAt : ℕ → Spot → ℕ → List Thread → List Thread
+leavesAt k p x z = around (cutOf p) (leaves k (p .thread) x z)
+
+pub offers-spots : (k : ℕ) (ps : List Placed)
+    → offers k (threadsOf ps) ≡ flatMap (λ p. map (located (leavesAt k p)) (offersOf (p .thread) k)) (spots ps)
+unfolding among
+offers-spots k ps =
+    offers-among k (threadsOf ps) ∙ cuts-spots _ ps
+    ∙ ap (λ f. flatMap f (spots ps)) (fun-ext λ p.
+    ap (map (placed (around (cutOf p)))) (offers-thread k (p .thread)) ∙ map-map _ _ (offersOf (p .thread) k))
+
+pub joints-spots : (k : ℕ) (ps : List Placed)
+    → among framed silentOf k (threadsOf ps) ≡ flatMap (λ p. map (jointly (leavesAt k p)) (jointsOf (p .thread) k)) (spots ps)
+unfolding among met
+joints-spots k ps =
+    cuts-spots _ ps
+    ∙ ap (λ f. flatMap f (spots ps)) (fun-ext λ p.
+    ap (map (framed (around (cutOf p)))) (silent-thread k (p .thread)) ∙ map-map _ _ (jointsOf (p .thread) k))

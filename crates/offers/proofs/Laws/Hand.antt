@@ -1,0 +1,69 @@
+-- Messages that are copied to where they stay ("Steps"). Assumes nothing.
+use mathlib.Core.Path.{_≡_, sym, subst}
+use mathlib.Core.List.{List, [], _∷_}
+use Prim.Native.Nat.{ℕ, _+_, _-_, _*_, _≤_, _<_}
+use native.Mathlib.Omega.{arith}
+use lib.ListN.{length, take, drop, length-append, length-drop}
+use Rattle.meaning.specs.Messages.Term.{Message}
+use Rattle.meaning.specs.Bytes.Standing.{Stands}
+use Rattle.meaning.proofs.Bytes.Reading.Place.{parts}
+use Rattle.messages.specs.Encoding.{encodeMessage}
+use Rattle.messages.specs.Run.{SizeOf}
+use Rattle.messages.proofs.Theorems.{runLength}
+use Rattle.messages.proofs.Laws.Buffer.{lent, part}
+use Rattle.messages.proofs.Laws.Walk.{some-node}
+use Rattle.states.specs.Stored.{Fetched}
+use Rattle.states.specs.Shown.{encodeMessages}
+use Rattle.offers.specs.Hand.{Copies, Hands}
+
+-- What stands ends within the slice.
+pub stands-short : {s xs : List ℕ} {at end : ℕ} → Stands s at xs end → 1 ≤ length xs → end ≤ length s
+stands-short {s} {xs} {at} {end} p h =
+    let bytes : length (drop at s) ≡ length xs + length (drop end s) = rw (p .bytes) (length-append xs (drop end s)) in
+    omega (arith, bytes, p .size, length-drop at s, length-drop end s)
+
+pub copies-none : {out to : List ℕ} {from : ℕ} → length out < from → Copies out from 0 to
+copies-none h = record { exact = λ x p k. absurd (omega (arith, stands-short p (omega (arith, runLength x, some-node x)), p .size)) }
+
+module _ (out : List ℕ) {from v : ℕ} (z : SizeOf (take (length out - from) (drop from out)) v) where
+  size-of : (x : Message) {end : ℕ} → Stands out from (encodeMessage x) end → 2 * v ≡ length (encodeMessage x)
+  size-of x p =
+      let n = z .same x (lent p (stands-short p (omega (arith, runLength x, some-node x)))) in omega (arith, n, runLength x)
+
+  pub copies-long : {to : List ℕ} → length to < 2 * v → Copies out from 0 to
+  copies-long h = record { exact = λ x p k. absurd (omega (arith, size-of x p)) }
+
+  pub copies-made : {to : List ℕ} → Fetched (take (from + 2 * v - from) (drop from out)) to → Copies out from (2 * v) to
+  copies-made w = record {
+    exact = λ x {end} p k.
+        let n = size-of x p in
+        let ends : end ≡ from + 2 * v = omega (arith, p .size) in
+        let same : take (from + 2 * v - from) (drop from out) ≡ encodeMessage x = rw ends at (part p) in
+        rw (same, sym n) at (w .there);
+  }
+
+pub ruleset copyings = (copies-none, copies-long, copies-made)
+
+-- The second one stands behind the first.
+pub handed : {out : List ℕ} {from a b : ℕ} (channel message : List ℕ) → Copies out from a channel → Copies out (from + a) b message
+    → Hands out from (record { channel = a; message = b }) channel message
+unfolding encodeMessages
+handed {out} {from} {a} channel message f g = record {
+  exact = λ x y p k l.
+      let (mid, q, both) = parts (encodeMessage x) (encodeMessages (y ∷ []) ∷ []) p in
+      let (last, r, e) = parts (encodeMessage y) ([] ∷ []) both in
+      let first = f .exact x q k in
+      let here : mid ≡ from + a = omega (arith, q .size, first .size) in
+      (first, g .exact y (subst (λ (n : ℕ). Stands out n (encodeMessage y) last) here r) l);
+}
+
+pub none-handed : {out : List ℕ} {from : ℕ} (channel message : List ℕ) → length out < from
+    → Hands out from (record { channel = 0; message = 0 }) channel message
+unfolding encodeMessages
+none-handed channel message h = record {
+  exact = λ x y p k l.
+      let (mid, q, both) = parts (encodeMessage x) (encodeMessages (y ∷ []) ∷ []) p in
+      absurd (omega (arith, stands-short q (omega (arith, runLength x, some-node x)), q .size));
+}
+
+pub ruleset hands = (handed, none-handed)

@@ -1,0 +1,15 @@
+-- `offers::seek::look` meets its contract. Assumes nothing.
+use borrow.Author.Needs.{needs}
+use Rattle.states.proofs.Laws.Progress.{to-ends}
+use Rattle.offers.proofs.Laws.Seek.{looks}
+use Rattle.walks.proofs.Laws.Visit.{behind}
+use Rattle.offers.proofs.seek.look.Statement.{statement}
+use Rattle.offers.proofs.seek.look.Tie as tie
+
+pub look-spec : {M : Type 1} → statement M
+look-spec = tie.close (tie.spec
+    (λ c κs. search needs)
+    (λ c κs. search needs)
+    (λ c. search needs)
+    (λ c. search needs)
+    (λ c. (search (needs, to-ends), (search (needs, behind), search (needs, looks)))))

@@ -1,0 +1,3 @@
+pub mod Hand
+pub mod Labelled
+pub mod Seek

@@ -1,0 +1,67 @@
+-- The next offer among the threads of a state ("Steps"). Assumes nothing.
+use mathlib.Core.Path.{_≡_}
+use mathlib.Core.Bool.{true, false}
+use mathlib.Core.List.{List, [], _∷_}
+use Prim.Native.Nat.{ℕ, _+_, _≤_}
+use lib.Dec.{eqb}
+use lib.ListN.{length}
+use Rattle.meaning.specs.Messages.Term.{Message}
+use Rattle.meaning.specs.Bytes.Standing.{Stands}
+use Rattle.states.specs.Record.{Placed, encodeRecord}
+use Rattle.states.specs.Course.{going}
+use Rattle.states.specs.Shown.{ShowsCourse, encodeMessages}
+use Rattle.threads.specs.declared.task.Quest.{Quest}
+use Rattle.states.specs.declared.progress.Progress.{Progress}
+use Rattle.positions.specs.Located.{Acting}
+use Rattle.positions.specs.Sought.{wanted, sentBy, first}
+use Rattle.moves.specs.Spot.{offersOf}
+use Rattle.moves.specs.Threads.{Judged, Threads}
+use Rattle.walks.specs.Visit.{nothingYet, Labelled, RecordAt}
+use Rattle.offers.specs.declared.seek.Sighting.{Sighting}
+
+-- No offer; or one of the thread whose record stands at a position.
+pub data Sight : Type 0 where
+  unseen : Sight
+  seen : (at : ℕ) → Acting → Sight
+
+-- The same quest from the first offer of a thread on.
+abbrev pub afresh : Quest → Quest
+afresh q = record { output = q .output; any = q .any; from = 0; but = q .but }
+
+-- The first of the offers of one thread, or else what is seen later.
+unfoldable pub firstOf : Quest → Message → (at : ℕ) → List Acting → Sight → Sight
+firstOf q x at [] later = later
+firstOf q x at (a ∷ others) later = elim (wanted q x a) [ true ↦ seen at a | false ↦ firstOf q x at others later ]
+
+-- The first among threads whose records stand from a position on, copies being opened at k, but none of the thread whose record stands at the
+-- position skip.
+unfoldable pub firstAmong : Quest → Message → (k skip at : ℕ) → List Placed → Sight
+firstAmong q x k skip at [] = unseen
+firstAmong q x k skip at (t ∷ ts) =
+    let later = firstAmong (afresh q) x k skip (at + length (encodeRecord t)) ts in
+    elim (eqb at skip) [ true ↦ later | false ↦ firstOf q x at (offersOf t k) later ]
+
+-- What is seen, as numbers and bytes.
+pub record Sees (out : List ℕ) (r : Sighting) (place : ℕ) (a : Acting) : Type 0 where
+  pub at : r .at ≡ place
+  pub mark : r .done .mark ≡ a .place + 1
+  pub next : r .done .names ≡ a .next
+  pub messages : Stands out (r .done .sent) (encodeMessages (sentBy a)) (r .done .state .end)
+
+abbrev pub ShowsSight : (out : List ℕ) → Sighting → Sight → Type 0
+ShowsSight out r unseen = r .done .mark ≡ 0
+ShowsSight out r (seen at a) = Sees out r at a
+
+-- Whatever thread has its record at a position, the walk over it comes to the first of its offers.
+pub record Looks (s label : List ℕ) (at to : ℕ) (m : List ℕ) (q : Quest) (names : ℕ) (out : List ℕ) (r : Progress) (after : List ℕ)
+    : Type 0 where
+  pub exact : (t : Placed) (x : Message) {k next : ℕ} → RecordAt s out at t next → Judged k t → k ≤ names → q .but ≡ 0 → Labelled label x
+      → length s ≤ 4096 → 10750 ≤ length m → to + 3964 ≤ length out → names ≤ 28664
+      → ShowsCourse s after r (first q x (offersOf t names) (going (nothingYet names)))
+
+-- Whatever threads stand from a position to another, the answer and the bytes show the first offer among them.
+pub record Seeks (s label : List ℕ) (at to : ℕ) (m : List ℕ) (q : Quest) (skip names : ℕ) (out : List ℕ) (r : Sighting) (after : List ℕ)
+    : Type 0 where
+  pub exact : (ps : List Placed) (x : Message) {k : ℕ} → Threads s out at k ps to → k ≤ names → q .but ≡ 0 → Labelled label x
+      → length s ≤ 4096 → 10750 ≤ length m → to + 3964 ≤ length out → names ≤ 28664
+      → ShowsSight after r (firstAmong q x names skip at ps)

@@ -1,0 +1,52 @@
+// The channel and the message of an output that a walk hands over in the work bytes, copied to where they stay ("Steps").
+use messages::run;
+use states::stored;
+ghost use mathlib.Core.Path.{_≡_};
+ghost use lib.ListN.{length};
+ghost use Prim.Native.Nat.{_+_, _≤_};
+ghost use Rattle.offers.specs.Hand.{Copies, Hands};
+
+// How many bytes each of them takes.
+pub struct Handed {
+    pub channel: usize,
+    pub message: usize,
+}
+
+// Copies the two messages that stand one after the other from a position on.
+pub fn hand(out: &[u8], from: usize, channel: &mut [u8], message: &mut [u8]) -> Handed
+    ensures { λ _. ⌜ length (now (channel .exit)) ≡ length (now (channel .entry)) ⌝ }
+    ensures { λ _. ⌜ length (now (message .exit)) ≡ length (now (message .entry)) ⌝ }
+    ensures { λ r. ⌜ r .channel ≤ length (now (channel .entry)) ⌝ }
+    ensures { λ r. ⌜ Hands (now (out .entry)) from r (now (channel .exit)) (now (message .exit)) ⌝ }
+{
+    if out.len() < from {
+        return Handed {
+            channel: 0,
+            message: 0,
+        };
+    }
+    let first = one(out, from, channel);
+    let second = one(out, from + first, message);
+    Handed {
+        channel: first,
+        message: second,
+    }
+}
+
+// Copies the message that stands at a position to the front of a slice, and answers how many bytes it takes.
+fn one(out: &[u8], from: usize, to: &mut [u8]) -> usize
+    ensures { λ r. ⌜ r ≤ length (now (to .entry)) ⌝ }
+    ensures { λ _. ⌜ length (now (to .exit)) ≡ length (now (to .entry)) ⌝ }
+    ensures { λ r. ⌜ Copies (now (out .entry)) from r (now (to .exit)) ⌝ }
+{
+    let long = out.len();
+    if long < from {
+        return 0;
+    }
+    let size = 2 * run::size(&out[from..long]);
+    if to.len() < size {
+        return 0;
+    }
+    stored::fetch(&out[from..from + size], to);
+    size
+}

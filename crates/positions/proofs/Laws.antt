@@ -1,0 +1,23 @@
+-- What each walk comes to, from the positions of offers up. Assumes nothing.
+pub mod Located
+pub mod Increasing
+pub mod Block
+pub mod Pairs
+pub mod Joint
+pub mod Clear
+pub mod Walks
+pub mod SeekFirst
+pub mod Copies
+pub mod Meant
+pub mod SeekIn
+pub mod Find
+pub mod Everywhere
+pub mod Leads
+pub mod Rebuilt
+pub mod Writing
+pub mod Marks
+pub mod Walking
+pub mod Building
+pub mod BuildingBoth
+pub mod BuildingIn
+pub mod Built

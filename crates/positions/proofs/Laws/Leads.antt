@@ -1,0 +1,113 @@
+-- A `new`, an `if` or a `let` leads to another process, which is settled and walked over in its place; so induction may pass over these
+-- three ("Steps"). Assumes nothing.
+use Prim.Native.Nat.{ℕ, suc, _+_}
+use mathlib.Core.Path.{_≡_, refl}
+use mathlib.Core.Bool.{Bool, true, false, _||_}
+use mathlib.Core.Logic.{_⊎_, inl, inr}
+use mathlib.Core.List.{List}
+use Rattle.meaning.specs.Messages.Term.{leaf, private, Term, Message}
+use Rattle.meaning.specs.Messages.Normal.{equal}
+use Rattle.meaning.specs.Bytes.Process.{Prefix, Process}
+use Rattle.meaning.specs.Steps.State.{Bound, _▸_, written, worked, Thread, names, settle}
+use Rattle.meaning.specs.Judging.Limits.{over, overSettling}
+use Rattle.meaning.proofs.Test.{neither}
+use Rattle.states.specs.Place.{thenAt, elseAt, bodyAt, rightAt}
+use Rattle.states.specs.Record.{Placed}
+use Rattle.states.specs.Course.{Going, named}
+use Rattle.threads.specs.Machine.{go}
+use Rattle.positions.specs.Located.{Acting, acting}
+use Rattle.positions.specs.Joint.{Joint, actingBut, joints}
+use Rattle.walks.specs.Settled.{settledAt}
+use Rattle.positions.specs.Rebuilt.{replacedAt, bothReplacedAt}
+use Rattle.threads.specs.declared.task.Task.{Task}
+use Rattle.positions.proofs.Laws.Located.{Part, new-part, then-part, else-part, let-part}
+
+-- What is said of a process at a position that is settled at n under the messages ρ.
+pub record Said : Type 0 where
+  pub next : ℕ
+  pub threads : List Thread
+  pub settled : List Placed
+  pub offers : (k : ℕ) → List Acting
+  pub others : (x k : ℕ) → List Acting
+  pub jointly : (k : ℕ) → List Joint
+  pub put : (x : ℕ) → List Placed → (k : ℕ) → List Placed
+  pub putBoth : (x : ℕ) → List Placed → (y : ℕ) → List Placed → (k j : ℕ) → List Placed
+
+unfoldable pub said : Process → (at : ℕ) → Bound → (n : ℕ) → Said
+said P at ρ n = record {
+  next = names P ρ n;
+  threads = settle P ρ n;
+  settled = settledAt P at ρ n;
+  offers = λ k. acting P at ρ n k;
+  others = λ x k. actingBut x P at ρ n k;
+  jointly = λ k. joints P at ρ n k;
+  put = λ x z k. replacedAt x z P at ρ n k;
+  putBoth = λ x zx y zy k j. bothReplacedAt x zx y zy P at ρ n k j;
+}
+
+-- It leads to another one.
+pub record Leads (P : Process) (at : ℕ) (ρ : Bound) (n : ℕ) (P′ : Process) (at′ : ℕ) (ρ′ : Bound) (n′ : ℕ) : Type 0 where
+  pub part : Part at P at′ P′
+  pub same : said P at ρ n ≡ said P′ at′ ρ′ n′
+  pub free : overSettling P ρ n ≡ false → overSettling P′ ρ′ n′ ≡ false
+  pub walk : overSettling P ρ n ≡ false → (T : Task) (x : Message) (g : Going)
+      → go P T x at ρ (named n g) ≡ go P′ T x at′ ρ′ (named n′ g)
+
+module _ (at : ℕ) (ρ : Bound) (n : ℕ) where
+  new-leads : (P : Process) → Leads (Process.new P) at ρ n P (at + 1) (ρ ▸ leaf (private n)) (suc n)
+  unfolding said names settle settledAt acting actingBut joints replacedAt bothReplacedAt overSettling go
+  new-leads P = record { part = new-part at P; same = refl; free = λ f. f; walk = λ f T x g. refl }
+
+  let-leads : (M : Term) (P : Process) → Leads (Process.let-in M P) at ρ n P (bodyAt at M) (ρ ▸ worked ρ M) n
+  unfolding said names settle settledAt acting actingBut joints replacedAt bothReplacedAt overSettling go
+  let-leads M P = record {
+    part = let-part at M P;
+    same = refl;
+    free = λ f. neither (over ρ M) _ f .1;
+    walk = λ f T x g. rw (neither (over ρ M) _ f .0, go);
+  }
+
+  module _ (M N : Term) (P Q : Process) where
+    then-leads : equal (written ρ M) (written ρ N) ≡ true → Leads (Process.if M N P Q) at ρ n P (thenAt at M N) ρ n
+    unfolding said names settle settledAt acting actingBut joints replacedAt bothReplacedAt overSettling go
+    then-leads t = record {
+      part = then-part at M N P Q;
+      same = rw (t, names, settle, settledAt, acting, actingBut, joints, replacedAt, bothReplacedAt);
+      free = λ f. rw t at (neither (over ρ M || over ρ N) _ f .1);
+      walk = λ f T x g. rw (neither (over ρ M || over ρ N) _ f .0, t, go);
+    }
+
+    else-leads : equal (written ρ M) (written ρ N) ≡ false → Leads (Process.if M N P Q) at ρ n Q (elseAt at M N P) ρ n
+    unfolding said names settle settledAt acting actingBut joints replacedAt bothReplacedAt overSettling go
+    else-leads t = record {
+      part = else-part at M N P Q;
+      same = rw (t, names, settle, settledAt, acting, actingBut, joints, replacedAt, bothReplacedAt);
+      free = λ f. rw t at (neither (over ρ M || over ρ N) _ f .1);
+      walk = λ f T x g. rw (neither (over ρ M || over ρ N) _ f .0, t, go);
+    }
+
+known : (b : Bool) → (b ≡ true) ⊎ (b ≡ false)
+known true = inl refl
+known false = inr refl
+
+-- Induction that passes over those three.
+pub record Cases (C : Process → ℕ → Bound → ℕ → Type 0) : Type 0 where
+  pub lead : {P P′ : Process} {at at′ : ℕ} {ρ ρ′ : Bound} {n n′ : ℕ} → Leads P at ρ n P′ at′ ρ′ n′ → C P′ at′ ρ′ n′ → C P at ρ n
+  pub nothing : (at : ℕ) (ρ : Bound) (n : ℕ) → C Process.nil at ρ n
+  pub action : (p : Prefix) (P : Process) (at : ℕ) (ρ : Bound) (n : ℕ) → C (Process.act p P) at ρ n
+  pub beside : (P Q : Process) (at : ℕ) (ρ : Bound) (n : ℕ) → C P (at + 1) ρ n → C Q (rightAt at P) ρ (names P ρ n)
+      → C (Process.par P Q) at ρ n
+  pub copied : (P : Process) (at : ℕ) (ρ : Bound) (n : ℕ) → ((m : ℕ) → C P (at + 1) ρ m) → C (Process.repl P) at ρ n
+
+pub by-cases : {C : Process → ℕ → Bound → ℕ → Type 0} → Cases C → (P : Process) (at : ℕ) (ρ : Bound) (n : ℕ) → C P at ρ n
+by-cases c Process.nil at ρ n = c .nothing at ρ n
+by-cases c (Process.new P) at ρ n = c .lead (new-leads at ρ n P) (by-cases c P _ _ _)
+by-cases c (Process.act p P) at ρ n = c .action p P at ρ n
+by-cases c (Process.if M N P Q) at ρ n =
+    elim (known (equal (written ρ M) (written ρ N))) [
+      | inl t ↦ c .lead (then-leads at ρ n M N P Q t) (by-cases c P _ ρ n)
+      | inr t ↦ c .lead (else-leads at ρ n M N P Q t) (by-cases c Q _ ρ n)
+    ]
+by-cases c (Process.let-in M P) at ρ n = c .lead (let-leads at ρ n M P) (by-cases c P _ _ n)
+by-cases c (Process.par P Q) at ρ n = c .beside P Q at ρ n (by-cases c P _ ρ n) (by-cases c Q _ ρ _)
+by-cases c (Process.repl P) at ρ n = c .copied P at ρ n (λ m. by-cases c P _ ρ m)

@@ -1,0 +1,170 @@
+-- The lists that a step leaves, with positions: without these they are those of the definitions, and a position outside a process changes
+-- nothing in it ("Steps"). Assumes nothing.
+use Prim.Native.Nat.{ℕ, _+_}
+use mathlib.Core.Path.{_≡_, refl, sym, _∙_, ap, ap₂}
+use mathlib.Core.Bool.{true, false}
+use mathlib.Core.List.{List, _++_, map-append}
+use lib.Dec.{eqb}
+use borrow.Author.Tests.{eq-eqb}
+use Rattle.meaning.specs.Messages.Normal.{equal}
+use Rattle.meaning.specs.Bytes.Process.{Prefix, Process}
+use Rattle.meaning.specs.Places.{Every, none, _also_}
+use Rattle.meaning.specs.Steps.State.{Bound, written, Thread, act, repl, names}
+use Rattle.meaning.proofs.Test.{chosen as tested}
+use Rattle.meaning.proofs.Every.{every-map, every-joined}
+use Rattle.states.specs.Place.{rightAt}
+use Rattle.states.specs.Record.{Placed}
+use Rattle.positions.specs.Located.{Acting, acting, inside, replaced}
+use Rattle.positions.specs.Joint.{Joint, bothReplaced, left}
+use Rattle.walks.specs.Settled.{settledAt, threadsOf}
+use Rattle.positions.specs.Rebuilt.{alone, replacedAt, bothReplacedAt, leftAt}
+use Rattle.positions.proofs.Laws.Everywhere.{every-and}
+use Rattle.positions.proofs.Laws.Leads.{said, Cases, by-cases}
+use Rattle.positions.proofs.Laws.Located.{new-part, then-part, else-part, let-part, left-part, right-part, repl-part}
+use Rattle.positions.proofs.Laws.Located.{part-outside, outside-first, part-first, Inside, acting-inside, left-only, right-only}
+
+-- Lists with and without positions, by one test, and joined.
+abbrev Bare : List Placed → List Thread → Type 0
+Bare ps ts = threadsOf ps ≡ ts
+
+joined-bare : (ps qs : List Placed) {ts us : List Thread} → Bare ps ts → Bare qs us → Bare (ps ++ qs) (ts ++ us)
+joined-bare ps qs e f = map-append (λ t. t .thread) ps qs ∙ ap₂ _++_ e f
+
+-- Without positions.
+module _ (x : ℕ) (z : List Placed) where
+  pub replaced-threads : (P : Process) (at : ℕ) (ρ : Bound) (n k : ℕ)
+      → threadsOf (replacedAt x z P at ρ n k) ≡ replaced x (threadsOf z) P at ρ n k
+  unfolding replacedAt replaced
+  replaced-threads Process.nil at ρ n k = refl
+  replaced-threads (Process.new P) at ρ n k = replaced-threads P _ _ _ k
+  replaced-threads (Process.act p P) at ρ n k = tested Bare (eqb at x) refl refl
+  replaced-threads (Process.if M N P Q) at ρ n k =
+      tested Bare (equal (written ρ M) (written ρ N)) (replaced-threads P _ ρ n k) (replaced-threads Q _ ρ n k)
+  replaced-threads (Process.let-in M P) at ρ n k = replaced-threads P _ _ n k
+  replaced-threads (Process.par P Q) at ρ n k =
+      joined-bare (replacedAt x z P (at + 1) ρ n k) _ (replaced-threads P _ ρ n k) (replaced-threads Q _ ρ _ k)
+  replaced-threads (Process.repl P) at ρ n k =
+      tested Bare (eqb at x) refl (tested Bare (inside x (at + 1) P)
+      (joined-bare (replacedAt x z P (at + 1) ρ k (names P ρ k)) (alone at (repl ρ P)) (replaced-threads P _ ρ k _) refl) refl)
+
+  -- Nothing is replaced at a position outside the process.
+  pub replacedAt-outside : (P : Process) (at : ℕ) (ρ : Bound) (n k : ℕ) → inside x at P ≡ false
+      → replacedAt x z P at ρ n k ≡ settledAt P at ρ n
+  unfolding replacedAt settledAt
+  replacedAt-outside Process.nil at ρ n k out = refl
+  replacedAt-outside (Process.new P) at ρ n k out = replacedAt-outside P _ _ _ k (part-outside x (new-part at P) out)
+  replacedAt-outside (Process.act p P) at ρ n k out = rw (outside-first x at (Process.act p P) out, replacedAt)
+  replacedAt-outside (Process.if M N P Q) at ρ n k out =
+      tested _≡_ (equal (written ρ M) (written ρ N)) (replacedAt-outside P _ ρ n k (part-outside x (then-part at M N P Q) out))
+      (replacedAt-outside Q _ ρ n k (part-outside x (else-part at M N P Q) out))
+  replacedAt-outside (Process.let-in M P) at ρ n k out = replacedAt-outside P _ _ n k (part-outside x (let-part at M P) out)
+  replacedAt-outside (Process.par P Q) at ρ n k out =
+      ap₂ _++_ (replacedAt-outside P _ ρ n k (part-outside x (left-part at P Q) out))
+      (replacedAt-outside Q _ ρ _ k (part-outside x (right-part at P Q) out))
+  replacedAt-outside (Process.repl P) at ρ n k out =
+      rw (outside-first x at (Process.repl P) out, part-outside x (repl-part at P) out, replacedAt)
+
+module _ (x : ℕ) (zx : List Placed) (y : ℕ) (zy : List Placed) where
+  pub both-threads : (P : Process) (at : ℕ) (ρ : Bound) (n k j : ℕ)
+      → threadsOf (bothReplacedAt x zx y zy P at ρ n k j) ≡ bothReplaced x (threadsOf zx) y (threadsOf zy) P at ρ n k j
+  unfolding bothReplacedAt bothReplaced
+  both-threads Process.nil at ρ n k j = refl
+  both-threads (Process.new P) at ρ n k j = both-threads P _ _ _ k j
+  both-threads (Process.act p P) at ρ n k j = tested Bare (eqb at x) refl (replaced-threads y zy (Process.act p P) at ρ n j)
+  both-threads (Process.if M N P Q) at ρ n k j =
+      tested Bare (equal (written ρ M) (written ρ N)) (both-threads P _ ρ n k j) (both-threads Q _ ρ n k j)
+  both-threads (Process.let-in M P) at ρ n k j = both-threads P _ _ n k j
+  both-threads (Process.par P Q) at ρ n k j =
+      joined-bare (bothReplacedAt x zx y zy P (at + 1) ρ n k j) _ (both-threads P _ ρ n k j) (both-threads Q _ ρ _ k j)
+  both-threads (Process.repl P) at ρ n k j =
+      tested Bare (inside x (at + 1) P) (replaced-threads x zx (Process.repl P) at ρ n k)
+      (replaced-threads y zy (Process.repl P) at ρ n j)
+
+  -- The first position outside the process: only the second one matters.
+  pub both-second : (P : Process) (at : ℕ) (ρ : Bound) (n k j : ℕ) → inside x at P ≡ false
+      → bothReplacedAt x zx y zy P at ρ n k j ≡ replacedAt y zy P at ρ n j
+  unfolding bothReplacedAt replacedAt
+  both-second Process.nil at ρ n k j out = refl
+  both-second (Process.new P) at ρ n k j out = both-second P _ _ _ k j (part-outside x (new-part at P) out)
+  both-second (Process.act p P) at ρ n k j out = rw (outside-first x at (Process.act p P) out, bothReplacedAt)
+  both-second (Process.if M N P Q) at ρ n k j out =
+      tested _≡_ (equal (written ρ M) (written ρ N)) (both-second P _ ρ n k j (part-outside x (then-part at M N P Q) out))
+      (both-second Q _ ρ n k j (part-outside x (else-part at M N P Q) out))
+  both-second (Process.let-in M P) at ρ n k j out = both-second P _ _ n k j (part-outside x (let-part at M P) out)
+  both-second (Process.par P Q) at ρ n k j out =
+      ap₂ _++_ (both-second P _ ρ n k j (part-outside x (left-part at P Q) out))
+      (both-second Q _ ρ _ k j (part-outside x (right-part at P Q) out))
+  both-second (Process.repl P) at ρ n k j out = rw (part-outside x (repl-part at P) out, bothReplacedAt)
+
+pub left-threads : (w : Joint) (zx zy : List Placed) → threadsOf (leftAt w zx zy) ≡ left w (threadsOf zx) (threadsOf zy)
+unfolding leftAt left
+left-threads w zx zy =
+    let x = w .pair .sender .place in
+    let y = w .pair .taker .place in
+    let own = replacedAt x zx (w .copied) (w .place + 1) (w .bound) (w .opens) (names (w .copied) (w .bound) (w .opens)) in
+    tested Bare (w .two) (joined-bare own _ (replaced-threads x zx (w .copied) _ _ _ _) (replaced-threads y zy (w .copied) _ _ _ _))
+    (both-threads x zx y zy (w .copied) _ _ _ _ _)
+
+-- A list in the place of a thread that acts, of a repl thread, and of a thread in its copy.
+module _ (z : List Placed) (at : ℕ) (ρ : Bound) (n k : ℕ) where
+  pub replacedAt-act : (p : Prefix) (P : Process) → replacedAt at z (Process.act p P) at ρ n k ≡ z
+  unfolding replacedAt
+  replacedAt-act p P = rw (eq-eqb at at refl, replacedAt)
+
+  pub replacedAt-repl : (P : Process) → replacedAt at z (Process.repl P) at ρ n k ≡ z
+  unfolding replacedAt
+  replacedAt-repl P = rw (eq-eqb at at refl, replacedAt)
+
+  pub replacedAt-copy : (x : ℕ) (P : Process) → inside x (at + 1) P ≡ true
+      → replacedAt x z (Process.repl P) at ρ n k ≡ replacedAt x z P (at + 1) ρ k (names P ρ k) ++ alone at (repl ρ P)
+  unfolding replacedAt
+  replacedAt-copy x P e = rw (part-first x (repl-part at P) e, e, replacedAt)
+
+-- Both positions outside the process.
+pub both-neither : (x : ℕ) (zx : List Placed) (y : ℕ) (zy : List Placed) (P : Process) (at : ℕ) (ρ : Bound) (n k j : ℕ)
+    → inside x at P ≡ false → inside y at P ≡ false → bothReplacedAt x zx y zy P at ρ n k j ≡ settledAt P at ρ n
+both-neither x zx y zy P at ρ n k j out out′ = both-second x zx y zy P at ρ n k j out ∙ replacedAt-outside y zy P at ρ n j out′
+
+-- The second position outside, and the first one that of an offer: only this matters.
+abbrev FirstOnly : Process → (at : ℕ) → Bound → (n k : ℕ) → Acting → Type 0
+FirstOnly P at ρ n k a =
+    (zx : List Placed) (y : ℕ) (zy : List Placed) (j : ℕ) → inside y at P ≡ false
+    → bothReplacedAt (a .place) zx y zy P at ρ n k j ≡ replacedAt (a .place) zx P at ρ n k
+
+first-act : (p : Prefix) (P : Process) (at : ℕ) (ρ : Bound) (n k : ℕ)
+    → FirstOnly (Process.act p P) at ρ n k (record { place = at; bound = ρ; prefix = p; rest = P; next = k })
+unfolding bothReplacedAt replacedAt
+first-act p P at ρ n k zx y zy j out = rw (eq-eqb at at refl, bothReplacedAt, replacedAt)
+
+first-still : (P : Process) (at : ℕ) (ρ : Bound) (n k : ℕ) (a : Acting) → inside (a .place) at P ≡ false → FirstOnly P at ρ n k a
+first-still P at ρ n k a out zx y zy j out′ =
+    both-neither (a .place) zx y zy P at ρ n k j out out′ ∙ sym (replacedAt-outside (a .place) zx P at ρ n k out)
+
+first-par : (P Q : Process) (at : ℕ) (ρ : Bound) (n k : ℕ) (a : Acting) → FirstOnly P (at + 1) ρ n k a
+    → FirstOnly Q (rightAt at P) ρ (names P ρ n) k a → FirstOnly (Process.par P Q) at ρ n k a
+unfolding bothReplacedAt replacedAt
+first-par P Q at ρ n k a e f zx y zy j out =
+    ap₂ _++_ (e zx y zy j (part-outside y (left-part at P Q) out)) (f zx y zy j (part-outside y (right-part at P Q) out))
+
+first-cases : Cases (λ P at ρ n. (k : ℕ) → Every (FirstOnly P at ρ n k) (acting P at ρ n k))
+unfolding said acting bothReplacedAt
+first-cases = record {
+  lead = λ l h k.
+      rw (ap (λ s. s .offers k) (l .same))
+      (every-map (λ a e zx y zy j out.
+      ap (λ s. s .putBoth (a .place) zx y zy k j) (l .same) ∙ e zx y zy j (part-outside y (l .part) out)
+      ∙ sym (ap (λ s. s .put (a .place) zx k) (l .same))) (h k));
+  nothing = λ at ρ n k. none;
+  action = λ p P at ρ n k. first-act p P at ρ n k also none;
+  beside = λ P Q at ρ n p q k.
+      every-joined
+      (every-map (λ a (e, i). first-par P Q at ρ n k a e (first-still Q _ ρ _ k a (left-only (a .place) at P Q i)))
+      (every-and (p k) (acting-inside P _ ρ n k)))
+      (every-map (λ a (e, i). first-par P Q at ρ n k a (first-still P _ ρ n k a (right-only (a .place) at P Q i)) e)
+      (every-and (q k) (acting-inside Q _ ρ _ k)));
+  copied = λ P at ρ n h k.
+      every-map (λ a (e : Inside (at + 1) P a) zx y zy j out. rw (e, bothReplacedAt)) (acting-inside P (at + 1) ρ k (names P ρ k));
+}
+
+pub both-first : (P : Process) (at : ℕ) (ρ : Bound) (n k : ℕ) → Every (FirstOnly P at ρ n k) (acting P at ρ n k)
+both-first = by-cases first-cases

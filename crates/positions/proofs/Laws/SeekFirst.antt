@@ -1,0 +1,176 @@
+-- What a walk finds that seeks an offer of a process that meets no limit ("Steps"). Assumes nothing.
+use Prim.Native.Nat.{ℕ, _+_, _-_}
+use native.Mathlib.Omega.{arith}
+use mathlib.Core.Path.{_≡_, refl, sym, _∙_}
+use mathlib.Core.Bool.{Bool, true, false, not, _&&_, _||_, true≢false}
+use mathlib.Core.List.{[], _∷_}
+use lib.Dec.{ltb, eqb}
+use borrow.Author.Tests.{ltb-true, ltb-false, lt-ltb, le-ltb, eqb-true, eqb-false, eq-eqb, ne-eqb}
+use Rattle.meaning.specs.Messages.Term.{Message}
+use Rattle.meaning.specs.Messages.Normal.{same}
+use Rattle.meaning.specs.Bytes.Process.{Prefix, output, input, Process}
+use Rattle.meaning.specs.Steps.State.{Bound, worked, names, settle}
+use Rattle.meaning.specs.Logic.Truth.{anyOf}
+use Rattle.meaning.specs.Judging.Limits.{over, overSettling, overPrefix, overOffers}
+use Rattle.meaning.proofs.Test.{neither}
+use Rattle.positions.specs.Located.{Acting, acting, inside}
+use Rattle.positions.specs.Joint.{actingBut}
+use Rattle.states.specs.Course.{Going, Course, going, found, unless, named}
+use Rattle.threads.specs.Machine.{holds, opening, sought, atPrefix, atRepl, go}
+use Rattle.positions.specs.Sought.{wanted, sentBy, first, offersBut}
+use Rattle.threads.specs.declared.task.Task.the-variants.{Seek}
+use Rattle.threads.specs.declared.task.Quest.{Quest}
+use Rattle.positions.proofs.Laws.Located.{size, outside, Part, outside-first, part-outside}
+use Rattle.positions.proofs.Laws.Located.{new-part, then-part, else-part, let-part, left-part, right-part, repl-part}
+use Rattle.positions.proofs.Laws.Block.{block-laws}
+use Rattle.positions.proofs.Laws.Clear.{Clear, done, made, acts, then, else, body, both, copy, clear}
+use Rattle.positions.proofs.Laws.Walks.{Walks, walks-new, walks-then, walks-else, walks-body, walks-both, walks-copy, first-picks}
+
+-- A test for less, turned round.
+ltb-turn : (a b : ℕ) → ltb a (b + 1) ≡ not (ltb b a)
+ltb-turn a b = by-test (ltb b a) refl
+  where
+    by-test : (t : Bool) → ltb b a ≡ t → ltb a (b + 1) ≡ not t
+    by-test true e = le-ltb a (b + 1) (omega (arith, ltb-true b a e))
+    by-test false e = lt-ltb a (b + 1) (omega (arith, ltb-false b a e))
+
+-- Two negations.
+not-not : (b : Bool) → not (not b) ≡ b
+not-not true = refl
+not-not false = refl
+
+-- A test on positions is one on their marks.
+eqb-marks : (a b : ℕ) → eqb (a + 1) (b + 1) ≡ eqb a b
+eqb-marks a b = by-test (eqb a b) refl
+  where
+    by-test : (t : Bool) → eqb a b ≡ t → eqb (a + 1) (b + 1) ≡ t
+    by-test true e = eq-eqb (a + 1) (b + 1) (omega (arith, eqb-true a b e))
+    by-test false e = ne-eqb (a + 1) (b + 1) (λ s. eqb-false a b e (omega arith))
+
+-- A process holds the mark of a position that is inside it, and never the mark 0.
+pub holds-inside : (x at : ℕ) (P : Process) → holds (x + 1) at P ≡ inside x at P
+unfolding holds inside
+holds-inside x at P = rw (ltb-turn at x, ltb-turn (at + size P) x, not-not (ltb x (at + size P)))
+
+pub holds-none : (at : ℕ) (P : Process) → holds 0 at P ≡ false
+unfolding holds
+holds-none at P = rw (le-ltb at 0 (omega arith))
+
+-- What the tests say of the mark of a position.
+module _ (x : ℕ) {mark : ℕ} (e : mark ≡ x + 1) where
+  pub first-mark : (at : ℕ) → eqb (at + 1) mark ≡ eqb at x
+  first-mark at = rw e (eqb-marks at x)
+
+  pub held-mark : (at : ℕ) (P : Process) → holds mark at P ≡ inside x at P
+  held-mark at P = rw e (holds-inside x at P)
+
+-- A mark stands for the position z; or it is none, and z is not in the process.
+data Marks (but z at : ℕ) (P : Process) : Type 0 where
+  marked : but ≡ z + 1 → Marks but z at P
+  unmarked : but ≡ 0 → inside z at P ≡ false → Marks but z at P
+
+-- So it does in a part of the process; and what the tests say of it.
+module _ {but z at : ℕ} {P : Process} where
+  marks-part : {at′ : ℕ} {P′ : Process} → Part at P at′ P′ → Marks but z at P → Marks but z at′ P′
+  marks-part part (marked e) = marked e
+  marks-part part (unmarked e out) = unmarked e (part-outside z part out)
+
+  marks-holds : Marks but z at P → holds but at P ≡ inside z at P
+  marks-holds (marked e) = held-mark z e at P
+  marks-holds (unmarked e out) = rw (e, out) (holds-none at P)
+
+  marks-first : Marks but z at P → eqb (at + 1) but ≡ eqb at z
+  marks-first (marked e) = first-mark z e at
+  marks-first (unmarked e out) = rw (e, outside-first z at P out) (ne-eqb (at + 1) 0 (λ s. omega arith))
+
+-- At a position outside a process none of its offers is left out.
+others-outside : (z : ℕ) (P : Process) (at : ℕ) (ρ : Bound) (n k : ℕ) → inside z at P ≡ false → actingBut z P at ρ n k ≡ acting P at ρ n k
+others-outside z P at ρ n k out = block-laws P at ρ n .everyone z k (λ i. true≢false (sym i ∙ out))
+
+-- An offer is looked at, unless e says that it is left out; two tests for limits are passed.
+picked : (q : Quest) (x : Message) (a : Acting) {o u : Bool} (b e c : Bool) (d : Course) → o ≡ false → u ≡ false → wanted q x a ≡ (b && c)
+    → elim (b && not e) [
+      | true ↦ unless o (elim c [ true ↦ unless u (found (a .place) (a .next) (sentBy a)) | false ↦ d ])
+      | false ↦ d
+    ] ≡ first q x (elim e [ true ↦ [] | false ↦ a ∷ [] ]) d
+unfolding first
+picked q x a true true c d o u w = refl
+picked q x a true false true d o u w = rw (o, u, w, first)
+picked q x a true false false d o u w = rw (o, w, first)
+picked q x a false true c d o u w = refl
+picked q x a false false c d o u w = rw (w, first)
+
+module _ (q : Quest) (x : Message) (z : ℕ) where
+  -- A thread that acts by itself.
+  prefix-sought : (at : ℕ) (ρ : Bound) (p : Prefix) (P : Process) (n k : ℕ) (g : Going) → overPrefix ρ p P k ≡ false
+      → eqb (at + 1) (q .but) ≡ eqb at z → sought q k x at ρ p g ≡ first q x (actingBut z (Process.act p P) at ρ n k) (going g)
+  unfolding sought actingBut wanted sentBy
+  prefix-sought at ρ (output C M) P n k g o e =
+      let (c, m) = neither (over ρ C) (over ρ M) o in
+      let a : Acting = record { place = at; bound = ρ; prefix = output C M; rest = P; next = k } in
+      let chosen = q .output && not (ltb at (q .from)) in
+      rw (e, sought) (picked q x a chosen (eqb at z) (q .any || same (worked ρ C) x) (going g) c m refl)
+  prefix-sought at ρ (input C) P n k g o e =
+      let a : Acting = record { place = at; bound = ρ; prefix = input C; rest = P; next = k } in
+      let chosen = not (q .output) && not (ltb at (q .from)) in
+      rw (e, sought) (picked q x a {u = false} chosen (eqb at z) (q .any || same (worked ρ C) x) (going g) o refl refl)
+
+  -- A repl thread that has z in it is left out; in any other no thread has it.
+  repl-sought : (at : ℕ) (ρ : Bound) (P : Process) (n k : ℕ) → overSettling P ρ k ≡ false → Marks (q .but) z (at + 1) P
+      → Walks (Seek q (names P ρ k)) x P (at + 1) ρ k (first q x (actingBut z P (at + 1) ρ k (names P ρ k)))
+      → Walks (Seek q k) x (Process.repl P) at ρ n (first q x (actingBut z (Process.repl P) at ρ n k))
+  unfolding go names atRepl opening actingBut
+  repl-sought at ρ P n k o m walk = by-test (inside z (at + 1) P) refl
+    where
+      by-test : (b : Bool) → inside z (at + 1) P ≡ b
+          → Walks (Seek q k) x (Process.repl P) at ρ n (first q x (actingBut z (Process.repl P) at ρ n k))
+      by-test true e =
+          record { comes = λ g. rw (marks-holds m, e, atRepl, actingBut) (sym (first-picks q x .nothing (going (named n g)))) }
+      by-test false e =
+          let found = rw (others-outside z P (at + 1) ρ k (names P ρ k) e) at walk in
+          record {
+            comes = λ g. rw (marks-holds m, e, atRepl, actingBut)
+                (walks-copy (at + 1) (Seek q k) o refl (first-picks q x .steady _) found (named n g));
+          }
+
+  -- The walk finds the first offer of a thread that does not have z in it.
+  seeks : {P : Process} {ρ : Bound} {n k : ℕ} → Clear P ρ n k → (at : ℕ) → Marks (q .but) z at P
+      → Walks (Seek q k) x P at ρ n (first q x (actingBut z P at ρ n k))
+  unfolding go names actingBut atPrefix
+  seeks (done {n = n}) at m = record { comes = λ g. sym (first-picks q x .nothing (going (named n g))) }
+  seeks (made {P} c) at m = walks-new at (seeks c (at + 1) (marks-part (new-part at P) m))
+  seeks (acts {p} {P} {ρ} {n} {k} o) at m = record { comes = λ g. prefix-sought at ρ p P n k (named n g) o (marks-first m) }
+  seeks (then {M} {N} {P} {Q} o e c) at m =
+      rw (e, actingBut) (walks-then at M N Q o e (seeks c _ (marks-part (then-part at M N P Q) m)))
+  seeks (else {M} {N} {P} {Q} o e c) at m =
+      rw (e, actingBut) (walks-else at M N P o e (seeks c _ (marks-part (else-part at M N P Q) m)))
+  seeks (body {M} {P} o c) at m = walks-body at M o (seeks c _ (marks-part (let-part at M P) m))
+  seeks (both {P} {Q} c d) at m =
+      let picks = first-picks q x in
+      walks-both at (picks .steady _) (picks .joined _ _) (seeks c _ (marks-part (left-part at P Q) m))
+      (seeks d _ (marks-part (right-part at P Q) m))
+  seeks (copy {P} {ρ} {n} {k} o c) at m =
+      let part = marks-part (repl-part at P) m in
+      repl-sought at ρ P n k o part (seeks c (at + 1) part)
+
+-- So it finds the first of the offers that are looked for, whatever the mark.
+pub seeks-first : (q : Quest) (x : Message) {P : Process} {ρ : Bound} {n k : ℕ} → Clear P ρ n k → (at : ℕ)
+    → Walks (Seek q k) x P at ρ n (first q x (offersBut (q .but) P at ρ n k))
+unfolding offersBut
+seeks-first q x {P} {ρ} {n} {k} c at = by-test (eqb (q .but) 0) refl
+  where
+    by-test : (b : Bool) → eqb (q .but) 0 ≡ b → Walks (Seek q k) x P at ρ n (first q x (offersBut (q .but) P at ρ n k))
+    by-test true e =
+        let z = at + size P in
+        let out = outside z at P (λ low high. omega arith) in
+        rw (e, offersBut, ← others-outside z P at ρ n k out) (seeks q x z c at (unmarked (eqb-true (q .but) 0 e) out))
+    by-test false e =
+        let some = eqb-false (q .but) 0 e in
+        rw (e, offersBut) (seeks q x (q .but - 1) c at (marked (omega arith)))
+
+-- The same, by the tests for limits.
+pub soughtFirst : (q : Quest) (k : ℕ) (x : Message) (P : Process) (at : ℕ) (ρ : Bound) (g : Going) → overSettling P ρ (g .names) ≡ false
+    → anyOf (λ t. overOffers t k) (settle P ρ (g .names)) ≡ false
+    → go P (Seek q k) x at ρ g
+    ≡ first q x (offersBut (q .but) P at ρ (g .names) k) (going (named (names P ρ (g .names)) g))
+soughtFirst q k x P at ρ g s o = seeks-first q x (clear P ρ (g .names) k s o) at .comes g

@@ -1,0 +1,105 @@
+-- What a walk finds that seeks an offer in the copies of one repl thread of a process that meets no limit ("Steps"). Assumes nothing.
+use Prim.Native.Nat.{ℕ, _+_}
+use native.Mathlib.Omega.{arith}
+use mathlib.Core.Path.{_≡_, refl, _∙_}
+use mathlib.Core.Bool.{false}
+use mathlib.Core.List.{List, _∷_, _++_}
+use borrow.Author.Tests.{eq-eqb}
+use Rattle.meaning.specs.Messages.Term.{Message}
+use Rattle.meaning.specs.Bytes.Process.{Process}
+use Rattle.meaning.specs.Steps.State.{Bound, names, settle}
+use Rattle.meaning.specs.Logic.Truth.{anyOf}
+use Rattle.meaning.specs.Judging.Limits.{overSettling, overOffers}
+use Rattle.positions.specs.Located.{Acting, inside}
+use Rattle.states.specs.Course.{Going, going, named}
+use Rattle.threads.specs.Machine.{opening, atPrefix, soughtIn, atRepl, go}
+use Rattle.positions.specs.Sought.{first, offersBut, Opened, copies}
+use Rattle.threads.specs.declared.task.Task.the-variants.{Seek, SeekIn}
+use Rattle.threads.specs.declared.task.Quest.{Quest}
+use Rattle.threads.specs.declared.task.CopyAt.{CopyAt}
+use Rattle.positions.proofs.Laws.Located.{outside, outside-first, part-outside, part-first, repl-part}
+use Rattle.positions.proofs.Laws.Clear.{Clear, clear}
+use Rattle.positions.proofs.Laws.Walks.{walks-back, walks-copy, first-picks, skip-picks}
+use Rattle.positions.proofs.Laws.Copies.{split-at}
+use Rattle.positions.proofs.Laws.Meant.{Sweeps, walks-all, Meets, walks-meant}
+use Rattle.positions.proofs.Laws.SeekFirst.{first-mark, held-mark, seeks-first}
+
+module _ (q : Quest) (c : CopyAt) (x : Message) where
+  -- A process that does not have the meant position in it is passed over.
+  passed : (y : ℕ) → c .place ≡ y + 1 → Sweeps x (SeekIn q c) skip-picks (λ at P. inside y at P ≡ false)
+  unfolding go names atPrefix atRepl
+  passed y e = record {
+    part = λ part out. part-outside y part out;
+    own = λ at ρ p P n k. record { comes = λ g. refl };
+    copied = λ at ρ P n k out o walk.
+        let here = first-mark y e at ∙ outside-first y at (Process.repl P) out in
+        let inner = held-mark y e (at + 1) P ∙ part-outside y (repl-part at P) out in
+        record { comes = λ g. rw (here, inner, atRepl) };
+  }
+
+  module _ (w : Opened) (meant : c .place ≡ w .place + 1) (L : List Acting) where
+    -- The copies of the repl thread w, if it meets no limit, have the offers L.
+    abbrev Offering : Type 0
+    Offering =
+        overSettling (w .copied) (w .bound) (w .opens) ≡ false
+        → Clear (w .copied) (w .bound) (w .opens) (names (w .copied) (w .bound) (w .opens))
+        → (g : Going) → soughtIn q c (w .opens) (λ U. go (w .copied) U x (w .place + 1) (w .bound)) g ≡ first q x L (going g)
+
+    -- So the walk meets w, and finds the first of them that is looked for.
+    meets : Offering → Meets x (SeekIn q c) skip-picks w (first q x L)
+    unfolding go names opening atRepl
+    meets offering =
+        let passing = passed (w .place) meant in
+        record {
+          steady = first-picks q x .steady L;
+          there = λ o clear n.
+              let here = first-mark (w .place) meant (w .place) ∙ eq-eqb (w .place) (w .place) refl in
+              record { comes = λ g. rw (here, atRepl) (offering o clear (named n g)) };
+          before = λ clear at le. walks-all x (SeekIn q c) skip-picks passing clear at (outside (w .place) at _ (λ low high. omega arith));
+          after = λ clear at lt. walks-all x (SeekIn q c) skip-picks passing clear at (outside (w .place) at _ (λ low high. omega arith));
+          around = λ at ρ P n k within o ws walk.
+              let here = first-mark (w .place) meant at ∙ part-first (w .place) (repl-part at P) within in
+              let inner = held-mark (w .place) meant (at + 1) P ∙ within in
+              record {
+                comes = λ g. rw (here, inner, atRepl)
+                    (walks-copy (at + 1) (SeekIn q c k) o refl (first-picks q x .steady L) walk (named n g));
+              };
+        }
+
+-- The walk over P meets no limit, and c means its repl thread w.
+module _ (q : Quest) (c : CopyAt) (k : ℕ) (x : Message) (P : Process) (at : ℕ) (ρ : Bound) (g : Going)
+    (settling : overSettling P ρ (g .names) ≡ false) (offering : anyOf (λ t. overOffers t k) (settle P ρ (g .names)) ≡ false)
+    (pre post : List Opened) (w : Opened) (listed : copies P at ρ (g .names) k ≡ pre ++ (w ∷ post)) (meant : c .place ≡ w .place + 1) where
+  -- It finds the first of the offers L that are looked for.
+  abbrev pub Finds : List Acting → Type 0
+  Finds L = go P (SeekIn q c k) x at ρ g ≡ first q x L (going (named (names P ρ (g .names)) g))
+
+  -- It does so if the copies of w have them.
+  finds : (L : List Acting) → Offering q c x w meant L → Finds L
+  finds L own = walks-meant x (SeekIn q c) skip-picks (meets q c x w meant L own) (clear P ρ (g .names) k settling offering) at
+      (split-at pre listed) .comes g
+
+  -- In the first copy: its own offers.
+  pub soughtInFirst : c .mode ≡ 0
+      → Finds (offersBut (q .but) (w .copied) (w .place + 1) (w .bound) (w .opens) (names (w .copied) (w .bound) (w .opens)))
+  unfolding soughtIn opening
+  soughtInFirst m = finds _ (λ o clear h.
+      rw (m, soughtIn) (walks-copy (w .place + 1) (Seek q (w .opens)) o refl (first-picks q x .steady _)
+      (seeks-first q x clear (w .place + 1)) h))
+
+  -- In the same copy once more: those of its threads, copies inside it being opened at the second name.
+  pub soughtInSame : c .mode ≡ 1 → anyOf (λ t. overOffers t (c .second)) (settle (w .copied) (w .bound) (w .opens)) ≡ false
+      → Finds (offersBut (q .but) (w .copied) (w .place + 1) (w .bound) (w .opens) (c .second))
+  unfolding soughtIn
+  soughtInSame m e = finds _ (λ o _ h.
+      rw (m, soughtIn, m) (walks-back (w .place + 1) (first-picks q x .steady _)
+      (seeks-first q x (clear (w .copied) (w .bound) (w .opens) (c .second) o e) (w .place + 1)) h))
+
+  -- In a second copy, which opens at the second name.
+  pub soughtInSecond : c .mode ≡ 2 → overSettling (w .copied) (w .bound) (c .second) ≡ false
+      → anyOf (λ t. overOffers t (names (w .copied) (w .bound) (c .second))) (settle (w .copied) (w .bound) (c .second)) ≡ false
+      → Finds (offersBut (q .but) (w .copied) (w .place + 1) (w .bound) (c .second) (names (w .copied) (w .bound) (c .second)))
+  unfolding soughtIn opening
+  soughtInSecond m o e = finds _ (λ _ _ h.
+      rw (m, soughtIn, m) (walks-copy (w .place + 1) (Seek q (w .opens)) o refl (first-picks q x .steady _)
+      (seeks-first q x (clear (w .copied) (w .bound) (c .second) _ o e) (w .place + 1)) h))

@@ -1,0 +1,12 @@
+-- `rests::names::only` meets its contract. Assumes nothing.
+use borrow.Author.Needs.{needs}
+use Rattle.rests.proofs.Laws.Rests.{only-names}
+use Rattle.rests.proofs.names.only.Statement.{statement}
+use Rattle.rests.proofs.names.only.Tie as tie
+
+pub only-spec : {M : Type 1} → statement M
+only-spec = tie.close (tie.spec
+    (λ c. search needs)
+    (λ c. search needs)
+    (λ c. search (needs, only-names))
+    (λ c. search needs))

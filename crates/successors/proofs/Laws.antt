@@ -1,0 +1,12 @@
+-- The laws by which the functions meet their contracts. Assumes nothing.
+pub mod Aliases
+pub mod Rebuild
+pub mod Rebuilt
+pub mod RebuiltMarks
+pub mod RebuiltBoth
+pub mod RebuiltLeaves
+pub mod RebuiltMove
+pub mod RebuiltMeant
+pub mod Lead
+pub mod Leads
+pub mod Tasks

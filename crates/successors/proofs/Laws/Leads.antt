@@ -1,0 +1,105 @@
+-- The state that a step leads to: first the names of its rests, then its threads ("Steps"; "Judging and its count"). Assumes nothing.
+use mathlib.Core.Path.{_≡_, refl, sym, _∙_}
+use mathlib.Core.Bool.{Bool, true, false, _||_, true≢false}
+use mathlib.Core.List.{List}
+use Prim.Native.Nat.{ℕ}
+use native.Mathlib.Omega.{arith}
+use Rattle.meaning.specs.Steps.State.{State}
+use Rattle.messages.specs.Buffer.{Within}
+use Rattle.messages.proofs.Laws.Buffer.{kept}
+use Rattle.states.specs.declared.state.State as code
+use Rattle.walks.specs.declared.form.Formed.{Formed}
+use Rattle.walks.specs.declared.form.Formed.the-variants as formed
+use Rattle.moves.specs.Outcome.{outcome}
+use Rattle.moves.specs.Held.{Held}
+use Rattle.rests.specs.Rests.{lastFor, restsOf, Settles}
+use Rattle.successors.specs.Lead.{Leads, LeadsAt}
+use Rattle.moves.specs.declared.step.Step as step
+use Rattle.rests.specs.declared.names.Rests.{Rests}
+use Rattle.rests.specs.declared.names.Rests.the-variants.{At, OverLimit}
+
+-- A state stays where nothing is written before its end.
+pub held-kept : {s out out₁ : List ℕ} {st : code.State} {S : State} {high : ℕ} → Within (st .end) high out out₁ → Held s out st S
+    → Held s out₁ st S
+held-kept {st = st} w h =
+    let bound = h .at .aliases in
+    record {
+      at = record {
+        aliases = record {
+          stands = kept {low = st .end} (bound .stands) (omega (arith, h .at .records .size)) (w .below);
+          few = bound .few;
+          normal = bound .normal;
+        };
+        placed = h .at .placed;
+        threads = h .at .threads;
+        records = kept {low = st .end} (h .at .records) (omega arith) (w .below);
+        standing = h .at .standing;
+        many = h .at .many;
+        nodes = h .at .nodes;
+        names = h .at .names;
+        size = h .at .size;
+      };
+      judged = h .judged;
+      stored = h .stored;
+      small = h .small;
+      few = h .few;
+      light = h .light;
+      made = h .made;
+    }
+
+-- Names, or a limit.
+names-or-limit : {last next : ℕ} → At last next ≡ OverLimit → ⊥
+names-or-limit e = let z : _≡_ {A = ℕ} 0 1 = cc in omega arith
+
+pub record Known (large : Bool) (a b last next : ℕ) : Type 0 where
+  pub small : large ≡ false
+  pub last-is : last ≡ a
+  pub next-is : next ≡ b
+
+known : (large : Bool) (a b : ℕ) {last next : ℕ} → At last next ≡ restsOf large a b → Known large a b last next
+known true a b e = absurd (names-or-limit e)
+known false a b e = record { small = refl; last-is = cc; next-is = cc }
+
+over : (large : Bool) (a b : ℕ) → OverLimit ≡ restsOf large a b → large ≡ true
+over true a b e = refl
+over false a b e = absurd (names-or-limit (sym e))
+
+module _ {s : List ℕ} {st : code.State} {v : step.Step} {message m out : List ℕ} {c : Rests} (settles : Settles s st v message m out c) where
+  pub leads-over : {after : List ℕ} → c ≡ OverLimit → Leads s st v message m out formed.OverLimit after
+  leads-over e = record {
+    exact = λ S h x w moving leading.
+        let o = outcome (h .at .placed) (S .next) x w in
+        let large = over (o .large) (lastFor w) (o .next) (sym e ∙ settles .exact S h x w moving leading) in
+        record { none = λ t. refl; some = λ t. absurd (true≢false (sym (or-first (o .large) _ large) ∙ t)) };
+  }
+    where
+      or-first : (a b : Bool) → a ≡ true → (a || b) ≡ true
+      or-first a b e = rw e
+
+  pub leads-on : {m₁ out₁ after : List ℕ} {f : Formed} {last next low high high₁ : ℕ} → c ≡ At last next → Within low high m m₁
+      → Within (st .end) high₁ out out₁ → LeadsAt s st v last next message m₁ out₁ f after → Leads s st v message m out f after
+  unfolding held-kept
+  leads-on e wm wo leads = record {
+    exact = λ S h x w moving leading.
+        let o = outcome (h .at .placed) (S .next) x w in
+        let k = known (o .large) (lastFor w) (o .next) (sym e ∙ settles .exact S h x w moving leading) in
+        leads .exact S (held-kept wo h) x w
+        (record {
+          channel = moving .channel;
+          earlier = moving .earlier;
+          others = moving .others;
+          listed = moving .listed;
+          same = moving .same;
+          stored = moving .stored;
+          small = moving .small;
+          labelled = moving .labelled;
+        })
+        (record {
+          short = leading .short;
+          wide = omega (arith, leading .wide, wm .long);
+          room = omega (arith, leading .room, wo .long);
+          few = leading .few;
+        }) (k .small) (k .last-is) (k .next-is);
+  }
+
+pub ruleset leadings = (leads-over, leads-on)

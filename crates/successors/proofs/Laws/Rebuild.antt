@@ -1,0 +1,149 @@
+-- The threads of a state written into the next one ("Steps"). Assumes nothing.
+use mathlib.Core.Path.{_≡_, refl, sym, ap, _∙_}
+use mathlib.Core.Bool.{true, false, not, true≢false}
+use mathlib.Core.List.{List, [], _∷_}
+use Prim.Native.Nat.{ℕ, _+_, _-_, _≤_, _<_}
+use native.Mathlib.Omega.{arith}
+use lib.Dec.{eqb}
+use lib.ListN.{length}
+use borrow.Author.Tests.{eq-eqb, ne-eqb}
+use Rattle.meaning.specs.Messages.Term.{Message}
+use Rattle.meaning.specs.Steps.State.{Thread, act, repl, names}
+use Rattle.meaning.specs.Bytes.Standing.{Stands}
+use Rattle.messages.specs.Encoding.{numberAt}
+use Rattle.messages.specs.Buffer.{Within}
+use Rattle.states.specs.Record.{Placed, encodeRecord}
+use Rattle.states.specs.Course.{Going, Course, going, over-limit, found, further, push}
+use Rattle.states.specs.Shown.{Shows, ShowsCourse}
+use Rattle.states.specs.Stored.{Keeps}
+use Rattle.states.specs.Progress.{Extends}
+use Rattle.threads.specs.declared.task.Task.{Task}
+use Rattle.states.specs.declared.progress.Progress.{Progress}
+use Rattle.walks.proofs.Laws.Course.{Ends, Next, ends-either, push-next, go-names}
+use Rattle.states.proofs.Laws.Stored.{record-parts}
+use Rattle.moves.specs.Threads.{Threads}
+use Rattle.walks.specs.Visit.{Visits}
+use Rattle.successors.specs.Rebuild.{goOver, renewed, rebuilt, Prepared, Renews, Rebuilds}
+use Rattle.moves.proofs.Laws.Threads.{first-thread, threads-kept, no-threads}
+
+-- What is left of a thread, by its position.
+module _ (x : Message) (i : ℕ) (T : Task) (j : ℕ) (U : Task) (at : ℕ) (t : Placed) (g : Going) where
+  pub renewed-first : at ≡ i → renewed x i T j U at t g ≡ goOver t T x g
+  unfolding renewed
+  renewed-first e = rw (eq-eqb at i e, renewed)
+
+  pub renewed-second : (at ≡ i → ⊥) → at ≡ j → renewed x i T j U at t g ≡ goOver t U x g
+  unfolding renewed
+  renewed-second f e = rw (ne-eqb at i f, eq-eqb at j e, renewed)
+
+  pub renewed-others : (at ≡ i → ⊥) → (at ≡ j → ⊥) → renewed x i T j U at t g ≡ push (t .place) (t .thread) g
+  unfolding renewed
+  renewed-others f e = rw (ne-eqb at i f, ne-eqb at j e, renewed)
+
+-- So one thread is done.
+module _ {s label m out after : List ℕ} {at i j : ℕ} {T U : Task} {now r : Progress} where
+  pub at-first : at ≡ i → Visits s label at m T out now r after → Renews s label at m i T j U out now r after
+  at-first e v = record {
+    exact = λ t x g h l p d.
+        rw (renewed-first x i T j U at t g e) (v .exact t x g h (p .labelled) (p .short) (p .room) (p .names) (p .meant) d);
+  }
+
+  pub at-second : (at ≡ i → ⊥) → at ≡ j → Visits s label at m U out now r after → Renews s label at m i T j U out now r after
+  at-second f e v = record {
+    exact = λ t x g h l p d.
+        rw (renewed-second x i T j U at t g f e) (v .exact t x g h (p .labelled) (p .short) (p .room) (p .other-names) (p .other-meant) d);
+  }
+
+  pub at-others : (at ≡ i → ⊥) → (at ≡ j → ⊥) → Keeps out at now r after → Renews s label at m i T j U out now r after
+  at-others f e v = record {
+    exact = λ t x g h l p d. rw (renewed-others x i T j U at t g f e) (v .exact s t g (h .stands) l (h .standing) d);
+  }
+
+pub ruleset renewals = (at-first, at-second, at-others)
+
+-- Whatever is done at a thread, the names are given back.
+goOver-next : (t : Placed) (T : Task) (x : Message) (g : Going) → Ends (Next (g .names)) (goOver t T x g)
+unfolding names
+goOver-next t T x g = record { at-end = λ h e. of (t .thread) h e }
+  where
+    of : (u : Thread) (h : Going) → goOver (record { place = t .place; thread = u }) T x g ≡ going h → h .names ≡ g .names
+    of (act ρ p P) h e = go-names _ T x (t .place) ρ g h e
+    of (repl ρ P) h e = go-names _ T x (t .place) ρ g h e
+
+pub renewed-names : (x : Message) (i : ℕ) (T : Task) (j : ℕ) (U : Task) (at : ℕ) (t : Placed) (g h : Going)
+    → renewed x i T j U at t g ≡ going h → h .names ≡ g .names
+unfolding renewed
+renewed-names x i T j U at t g h e =
+    ends-either (eqb at i) (goOver-next t T x g) (ends-either (eqb at j) (goOver-next t U x g) (push-next (t .place) (t .thread) g)) .at-end h e
+
+-- A record takes four bytes, and more.
+record-long : {out : List ℕ} {at next : ℕ} (t : Placed) → Stands out at (encodeRecord t) next → at + 4 ≤ next
+record-long t h = let (a, b, c) = record-parts t h in omega (arith, c .size)
+
+threads-long : {s out : List ℕ} {at k to : ℕ} (t : Placed) (ts : List Placed) → Threads s out at k (t ∷ ts) to → at + 4 ≤ to
+threads-long t ts h = let (a, b, c) = first-thread t ts h in omega (arith, record-long t (a .stands), c .stands .size)
+
+-- Nothing more is done.
+module _ {s label m out : List ℕ} {at to i j : ℕ} {T U : Task} {now : Progress} where
+  pub no-more : not (now .going) ≡ true → Rebuilds s label at to m i T j U out now now out
+  no-more e = record {
+    stopped = λ f. (refl, refl);
+    exact = λ ps x g h l p d. absurd (true≢false (sym e ∙ ap not (d .on)));
+  }
+
+  none-here : (at + 4 ≤ to → ⊥) → Rebuilds s label at to m i T j U out now now out
+  unfolding rebuilt
+  none-here f = record { stopped = λ o. (refl, refl); exact = λ ps x g h l p d. by-threads ps x g h d }
+    where
+      by-threads : (ps : List Placed) (x : Message) (g : Going) {k : ℕ} → Threads s out at k ps to → Shows s out now g
+          → ShowsCourse s out now (rebuilt x i T j U at ps g)
+      by-threads [] x g h d = d
+      by-threads (t ∷ ts) x g h d = absurd (f (threads-long t ts h))
+
+  pub at-the-end : to ≤ at → Rebuilds s label at to m i T j U out now now out
+  at-the-end e = none-here (λ h. omega arith)
+
+  pub near-the-end : to - at < 4 → Rebuilds s label at to m i T j U out now now out
+  near-the-end e = none-here (λ h. omega arith)
+
+-- One thread, and then the others.
+module _ {s label m m₁ out out₁ after : List ℕ} {at to i j size high : ℕ} {T U : Task} {now first r : Progress} where
+  pub one-more : not (now .going) ≡ false → 4 ≤ to - at → size ≡ numberAt out (at + 2)
+      → Renews s label at m i T j U out now first out₁ → Rebuilds s label (at + 4 + size) to m₁ i T j U out₁ first r after
+      → Extends now first → Within 0 high m m₁ → Within (now .state .end) (length out) out out₁
+      → Rebuilds s label at to m i T j U out now r after
+  unfolding rebuilt
+  one-more on far z v w e k o = record {
+    stopped = λ f. absurd (true≢false (ap not (sym f) ∙ on));
+    exact = λ ps x g h l p d. by-threads ps x g h l p d;
+  }
+    where
+      others : (t : Placed) (ts : List Placed) (x : Message) (g : Going) {n : ℕ} → Threads s out₁ (at + 4 + size) n ts to → to ≤ now .state .end
+          → Prepared s label m T U x (g .names) → (c : Course) → renewed x i T j U at t g ≡ c → ShowsCourse s out₁ first c
+          → ShowsCourse s after r (further c (rebuilt x i T j U (at + 4 + size) ts))
+      others t ts x g h l p (going h₁) same d =
+          w .exact ts x h₁ h (omega (arith, e .end)) (rw (renewed-names x i T j U at t g h₁ same) (record {
+            labelled = p .labelled;
+            short = p .short;
+            room = omega (arith, p .room, k .long);
+            names = p .names;
+            other-names = p .other-names;
+            meant = p .meant;
+            other-meant = p .other-meant;
+          })) d
+      others t ts x g h l p over-limit same d = rw (w .stopped (d .off) .0) d
+      others t ts x g h l p (found at₁ n ms) same d = let (is, as-was) = w .stopped (d .off) in rw (is, as-was) d
+
+      by-threads : (ps : List Placed) (x : Message) (g : Going) {n : ℕ} → Threads s out at n ps to → to ≤ now .state .end
+          → Prepared s label m T U x (g .names) → Shows s out now g → ShowsCourse s after r (rebuilt x i T j U at ps g)
+      by-threads [] x g h l p d = absurd (omega (arith, no-threads h))
+      by-threads (t ∷ ts) x g h l p d =
+          let (a, b, c) = first-thread t ts h in
+          let (place, long, bound) = record-parts t (a .stands) in
+          let here : at + length (encodeRecord t) ≡ at + 4 + size = omega (arith, bound .size) in
+          let rest = threads-kept ts o l (rw here at c) in
+          rw here
+          (others t ts x g rest l p (renewed x i T j U at t g) refl
+          (v .exact t x g a (omega (arith, c .stands .size)) p d))
+
+pub ruleset rebuilds = (no-more, at-the-end, near-the-end)

@@ -1,0 +1,11 @@
+-- `successors::tasks::assign_silent` meets its contract. Assumes nothing.
+use borrow.Author.Needs.{needs}
+use Rattle.successors.proofs.Laws.Tasks.{assignings}
+use Rattle.successors.proofs.tasks.assign_silent.Statement.{statement}
+use Rattle.successors.proofs.tasks.assign_silent.Tie as tie
+
+pub assign-silent-spec : {M : Type 1} → statement M
+assign-silent-spec = tie.close (tie.spec
+    (λ c. search (needs, assignings))
+    (λ c κs. search needs)
+    (λ c. search (needs, assignings)))

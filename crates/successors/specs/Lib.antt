@@ -1,0 +1,4 @@
+pub mod Aliases
+pub mod Lead
+pub mod Rebuild
+pub mod Tasks

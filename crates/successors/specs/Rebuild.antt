@@ -1,0 +1,55 @@
+-- The threads of a state written into the next one: those that act as their tasks leave them, the others as they are ("Steps").
+-- Assumes nothing.
+use mathlib.Core.Path.{_≡_}
+use mathlib.Core.Bool.{true, false}
+use mathlib.Core.List.{List, [], _∷_}
+use Prim.Native.Nat.{ℕ, _+_, _≤_}
+use lib.Dec.{eqb}
+use lib.ListN.{length}
+use Rattle.meaning.specs.Messages.Term.{Message}
+use Rattle.states.specs.Record.{Placed, processOf, boundOf, encodeRecord}
+use Rattle.states.specs.Course.{Going, Course, going, further, push}
+use Rattle.threads.specs.Machine.{go}
+use Rattle.states.specs.Shown.{Shows, ShowsCourse}
+use Rattle.walks.specs.Walk.{Meant}
+use Rattle.threads.specs.declared.task.Task.{Task}
+use Rattle.states.specs.declared.progress.Progress.{Progress}
+use Rattle.moves.specs.Threads.{Threads}
+use Rattle.walks.specs.Visit.{Labelled, RecordAt, NamesSmall}
+
+-- The walk over a thread for a task.
+abbrev pub goOver : Placed → Task → Message → Going → Course
+goOver t T x g = go (processOf (t .thread)) T x (t .place) (boundOf (t .thread)) g
+
+-- One thread, whose record stands at a position: the task T is done at the position i, the task U at the position j.
+unfoldable pub renewed : Message → (i : ℕ) → Task → (j : ℕ) → Task → (at : ℕ) → Placed → Going → Course
+renewed x i T j U at t g =
+    elim (eqb at i) [ true ↦ goOver t T x g | false ↦ elim (eqb at j) [ true ↦ goOver t U x g | false ↦ push (t .place) (t .thread) g ] ]
+
+-- All threads, whose records stand from a position on.
+unfoldable pub rebuilt : Message → (i : ℕ) → Task → (j : ℕ) → Task → (at : ℕ) → List Placed → Going → Course
+rebuilt x i T j U at [] g = going g
+rebuilt x i T j U at (t ∷ ts) g = further (renewed x i T j U at t g) (rebuilt x i T j U (at + length (encodeRecord t)) ts)
+
+-- What both tasks ask for: a label, a model and bytes to work in, and private names that two bytes hold.
+pub record Prepared (s label m : List ℕ) (T U : Task) (x : Message) (n : ℕ) : Type 0 where
+  pub labelled : Labelled label x
+  pub short : length s ≤ 4096
+  pub room : 10750 ≤ length m
+  pub names : NamesSmall T n
+  pub other-names : NamesSmall U n
+  pub meant : Meant s T
+  pub other-meant : Meant s U
+
+-- Whatever thread has its record there, below the state that is being written, the answer and the bytes show what is left of it.
+pub record Renews (s label : List ℕ) (at : ℕ) (m : List ℕ) (i : ℕ) (T : Task) (j : ℕ) (U : Task) (out : List ℕ) (now r : Progress)
+    (after : List ℕ) : Type 0 where
+  pub exact : (t : Placed) (x : Message) (g : Going) {next : ℕ} → RecordAt s out at t next → next ≤ now .state .end
+      → Prepared s label m T U x (g .names) → Shows s out now g → ShowsCourse s after r (renewed x i T j U at t g)
+
+-- Whatever threads have their records there, the same of all of them. A walk that goes no further is left as it is.
+pub record Rebuilds (s label : List ℕ) (at to : ℕ) (m : List ℕ) (i : ℕ) (T : Task) (j : ℕ) (U : Task) (out : List ℕ) (now r : Progress)
+    (after : List ℕ) : Type 0 where
+  pub stopped : now .going ≡ false → (r ≡ now) × (after ≡ out)
+  pub exact : (ps : List Placed) (x : Message) (g : Going) {k : ℕ} → Threads s out at k ps to → to ≤ now .state .end
+      → Prepared s label m T U x (g .names) → Shows s out now g → ShowsCourse s after r (rebuilt x i T j U at ps g)

@@ -1,0 +1,70 @@
+// The state that a step leads to, formed behind the one that it leaves ("Steps"; "Judging and its count").
+use crate::aliases;
+use crate::rebuild;
+use crate::tasks;
+use moves::step::Step;
+use rests::names;
+use rests::names::Rests;
+use states::state::State;
+use walks::form;
+use walks::form::Formed;
+ghost use Prim.Native.Nat.{_≤_};
+ghost use lib.ListN.{length};
+ghost use Rattle.messages.specs.Buffer.{Within};
+ghost use Rattle.successors.specs.Lead.{LeadsAt, Leads};
+
+// The state with the private names of its rests.
+fn build(
+    s: &[u8],
+    state: State,
+    step: Step,
+    last: usize,
+    next: usize,
+    message: &[u8],
+    m: &mut [u8],
+    out: &mut [u8],
+) -> Formed
+    requires { ⌜ (length (now s) ≤ 4096) × (state .end ≤ length (now out)) ⌝ }
+    ensures { λ _. ⌜ Within 0 (length (now (m .entry))) (now (m .entry)) (now (m .exit)) ⌝ }
+    ensures { λ _. ⌜ Within (state .end) (length (now (out .entry))) (now (out .entry)) (now (out .exit)) ⌝ }
+    ensures { λ r. ⌜ LeadsAt (now (s .entry)) state step last next (now (message .entry)) (now (m .entry)) (now (out .entry)) r (now (out .exit)) ⌝ }
+{
+    let label = step.label;
+    let begun = aliases::carry(state, tasks::sends(label), message, next, out);
+    let todo = tasks::assign(step, last, state.names);
+    let task = todo.task;
+    let other = todo.other;
+    form::finish(rebuild::rebuild(
+        s,
+        message,
+        state.start,
+        state.end,
+        m,
+        todo.first,
+        task,
+        todo.second,
+        other,
+        out,
+        begun,
+    ))
+}
+
+// The state that a step leads to: the message is the one that is sent, or that of an input's label.
+pub fn lead(
+    s: &[u8],
+    state: State,
+    step: Step,
+    message: &[u8],
+    m: &mut [u8],
+    out: &mut [u8],
+) -> Formed
+    requires { ⌜ (length (now s) ≤ 4096) × (state .end ≤ length (now out)) ⌝ }
+    ensures { λ _. ⌜ Within 0 (length (now (m .entry))) (now (m .entry)) (now (m .exit)) ⌝ }
+    ensures { λ _. ⌜ Within (state .end) (length (now (out .entry))) (now (out .entry)) (now (out .exit)) ⌝ }
+    ensures { λ r. ⌜ Leads (now (s .entry)) state step (now (message .entry)) (now (m .entry)) (now (out .entry)) r (now (out .exit)) ⌝ }
+{
+    match names::rest_names(s, state, step, message, m, out) {
+        Rests::At(last, next) => build(s, state, step, last, next, message, m, out),
+        Rests::OverLimit => Formed::OverLimit,
+    }
+}

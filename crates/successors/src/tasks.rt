@@ -1,0 +1,132 @@
+// What a step does to the threads that act ("Steps").
+use moves::step::Label;
+use moves::step::Step;
+use threads::task::CopyAt;
+use threads::task::Plan;
+use threads::task::Task;
+ghost use mathlib.Core.Path.{_≡_};
+ghost use Rattle.successors.specs.Tasks.{plan, tasksOf, silentTasks, sends};
+
+// What is done to the two threads whose records stand at the positions first and second. If they are the same, the first task is done.
+pub struct Tasks {
+    pub first: usize,
+    pub task: Task,
+    pub second: usize,
+    pub other: Task,
+}
+
+// A plan in which nobody acts.
+fn still() -> Plan
+    ensures { λ r. ⌜ r ≡ plan 0 0 0 0 0 ⌝ }
+{
+    Plan {
+        sender: 0,
+        taker: 0,
+        second: 0,
+        rest: 0,
+        last: 0,
+    }
+}
+
+// The tasks of a silent step: of two threads, or of the copies of one.
+fn assign_silent(step: Step, last: usize, names: usize) -> Tasks
+    ensures { λ r. ⌜ r ≡ silentTasks step last names ⌝ }
+{
+    let sender = step.sender;
+    let taker = step.taker;
+    let mode = step.mode;
+    let copy = step.copy;
+    if mode == 0 {
+        let sends = Plan {
+            sender: sender.mark,
+            taker: 0,
+            second: 0,
+            rest: taker.next,
+            last: 0,
+        };
+        let takes = Plan {
+            sender: 0,
+            taker: taker.mark,
+            second: 0,
+            rest: 0,
+            last: last,
+        };
+        return Tasks {
+            first: sender.at,
+            task: Task::Build(sends, names),
+            second: taker.at,
+            other: Task::Build(takes, sender.next),
+        };
+    }
+    let both = Plan {
+        sender: sender.mark,
+        taker: taker.mark,
+        second: sender.next,
+        rest: taker.next,
+        last: last,
+    };
+    let copies = CopyAt {
+        place: copy,
+        mode: mode,
+        second: sender.next,
+    };
+    Tasks {
+        first: sender.at,
+        task: Task::BuildIn(both, copies, names),
+        second: sender.at,
+        other: Task::Build(still(), names),
+    }
+}
+
+// The tasks of a step.
+pub(crate) fn assign(step: Step, last: usize, names: usize) -> Tasks
+    ensures { λ r. ⌜ r ≡ tasksOf step last names ⌝ }
+{
+    let sender = step.sender;
+    let taker = step.taker;
+    let label = step.label;
+    match label {
+        Label::Output => {
+            let sends = Plan {
+                sender: sender.mark,
+                taker: 0,
+                second: 0,
+                rest: sender.next,
+                last: 0,
+            };
+            Tasks {
+                first: sender.at,
+                task: Task::Build(sends, names),
+                second: sender.at,
+                other: Task::Build(still(), names),
+            }
+        }
+        Label::Input => {
+            let takes = Plan {
+                sender: 0,
+                taker: taker.mark,
+                second: 0,
+                rest: 0,
+                last: taker.next,
+            };
+            Tasks {
+                first: taker.at,
+                task: Task::Build(takes, names),
+                second: taker.at,
+                other: Task::Build(still(), names),
+            }
+        }
+        Label::Silent => assign_silent(step, last, names),
+    }
+}
+
+// Whether the message of a step becomes an alias.
+pub(crate) fn sends(label: Label) -> bool
+    ensures { λ r. ⌜ r ≡ sends label ⌝ }
+{
+    match label {
+        Label::Output => true,
+        Label::Input => false,
+        Label::Silent => false,
+    }
+}

@@ -1,0 +1,43 @@
+-- The branch of an if, and marks ("Steps"). Assumes nothing.
+use mathlib.Core.Path.{_≡_, refl, sym, _∙_}
+use mathlib.Core.Bool.{Bool, true, false, true≢false}
+use mathlib.Core.List.{List}
+use Prim.Native.Nat.{ℕ, _+_, _≤_, _<_}
+use native.Mathlib.Omega.{arith}
+use borrow.Author.Tests.{lt-ltb, le-ltb}
+use lib.ListN.{length}
+use Rattle.meaning.specs.Bytes.Encoding.{encodeProcess}
+use Rattle.reading.specs.Ends.{ProcessEnd}
+use Rattle.threads.specs.Machine.{holds}
+use Rattle.threads.specs.Thread.{Chosen, Held}
+
+module _ {s : List ℕ} {at : ℕ} {same : Bool} where
+  pub takes-first : same ≡ true → Chosen s at same at
+  takes-first e = record { first = λ f. refl; second = λ f. absurd (true≢false (sym e ∙ f)) }
+
+  pub takes-second : {r : ℕ} → same ≡ false → ProcessEnd s at r → Chosen s at same r
+  takes-second e p = record { first = λ f. absurd (true≢false (sym f ∙ e)); second = λ f. p }
+
+pub ruleset chosens = (takes-first, takes-second)
+
+-- A mark is behind the process, or in it, or before it.
+module _ {s : List ℕ} {at mark : ℕ} where
+  pub before-it : mark ≤ at → Held s at mark false
+  unfolding holds
+  before-it h = record { exact = λ P p. rw (le-ltb at mark h) }
+
+  pub in-it : {r : ℕ} → at < mark → ProcessEnd s at r → mark ≤ r → Held s at mark true
+  unfolding holds
+  in-it h l k = record {
+    exact = λ P p.
+        rw (lt-ltb at mark h, le-ltb (at + length (encodeProcess P)) mark (omega (arith, l .same P p, p .size)));
+  }
+
+  pub behind-it : {r : ℕ} → at < mark → ProcessEnd s at r → r < mark → Held s at mark false
+  unfolding holds
+  behind-it h l k = record {
+    exact = λ P p.
+        rw (lt-ltb at mark h, lt-ltb (at + length (encodeProcess P)) mark (omega (arith, l .same P p, p .size)));
+  }
+
+pub ruleset marks = (before-it, in-it, behind-it)

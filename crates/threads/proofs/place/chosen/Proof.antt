@@ -1,0 +1,11 @@
+-- `threads::place::chosen` meets its contract. Assumes nothing.
+use borrow.Author.Needs.{needs}
+use Rattle.threads.proofs.Laws.Place.{chosens}
+use Rattle.threads.proofs.place.chosen.Statement.{statement}
+use Rattle.threads.proofs.place.chosen.Tie as tie
+
+pub chosen-spec : {M : Type 1} → statement M
+chosen-spec = tie.close (tie.spec
+    (λ c. search (needs, chosens))
+    (λ c κs. search needs)
+    (λ c. search (needs, chosens)))

@@ -1,0 +1,17 @@
+-- `threads::thread::judge` meets its contract. Assumes nothing.
+use borrow.Author.Needs.{needs}
+use Rattle.states.proofs.Laws.Progress.{same-states, to-end}
+use Rattle.threads.proofs.Laws.Offer.{judges}
+use Rattle.threads.proofs.thread.judge.Statement.{statement}
+use Rattle.threads.proofs.thread.judge.Tie as tie
+
+pub judge-spec : {M : Type 1} → statement M
+judge-spec = tie.close (tie.spec
+    (λ c κs. search needs)
+    (λ c. search needs)
+    (λ c. search needs)
+    (λ c κs. search needs)
+    (λ c. search needs)
+    (λ c. (search (needs, same-states), (search (needs, to-end), search (needs, judges))))
+    (λ c. search needs)
+    (λ c. (search (needs, same-states), (search (needs, to-end), search (needs, judges)))))

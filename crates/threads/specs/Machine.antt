@@ -1,0 +1,164 @@
+-- The walk over a process, and what it does at each thread for each task. The walk of the code equals this one. What it has to do with
+-- settling and limits is proved in proofs/Laws (Counting, Settling), and with steps in the crate walks. Assumes nothing.
+use Prim.Native.Nat.{ℕ, suc, _+_}
+use mathlib.Core.Bool.{Bool, true, false, not, _&&_, _||_}
+use mathlib.Core.List.{[], _∷_}
+use lib.Dec.{ltb, eqb}
+use lib.ListN.{length}
+use Rattle.meaning.specs.Messages.Term.{leaf, private, Message}
+use Rattle.meaning.specs.Messages.Normal.{equal, same}
+use Rattle.meaning.specs.Bytes.Process.{Prefix, output, input, Process}
+use Rattle.meaning.specs.Bytes.Encoding.{encodeProcess}
+use Rattle.meaning.specs.Steps.State.{Bound, _▸_, written, worked, act, repl}
+use Rattle.meaning.specs.Judging.Limits.{over, overPrefix}
+use Rattle.states.specs.Place.{thenAt, elseAt, bodyAt, rightAt, restAt}
+use Rattle.states.specs.Course.{Going, Course, going, found, further, unless, named, returned, push}
+use Rattle.threads.specs.declared.task.Task.{Task}
+use Rattle.threads.specs.declared.task.Task.the-variants.{Count, Judge, Settle, Seek, SeekIn, Find, Build, BuildIn}
+use Rattle.threads.specs.declared.task.Quest.{Quest}
+use Rattle.threads.specs.declared.task.CopyAt.{CopyAt}
+use Rattle.threads.specs.declared.task.Plan.{Plan}
+
+-- The mark is one of the process P, which stands at a position.
+unfoldable pub holds : (mark at : ℕ) → Process → Bool
+holds mark at P = ltb at mark && not (ltb (at + length (encodeProcess P)) mark)
+
+-- The task inside a copy whose names are counted: copies inside it open at n.
+unfoldable pub opening : Task → ℕ → Task
+opening Count n = Count
+opening (Judge k) n = Judge n
+opening Settle n = Settle
+opening (Seek q k) n = Seek q n
+opening (SeekIn q c k) n = SeekIn q c n
+opening (Find f past k) n = Find f past n
+opening (Build b k) n = Build b n
+opening (BuildIn b c k) n = BuildIn b c n
+
+abbrev pub sending : Plan → Plan
+sending b = record { sender = b .sender; taker = 0; second = b .second; rest = b .rest; last = b .last }
+
+abbrev pub taking : Plan → Plan
+taking b = record { sender = 0; taker = b .taker; second = b .second; rest = b .rest; last = b .last }
+
+-- A copy is opened at the private name n: its names are counted, and then the task is done in it. The names that it took are given back.
+unfoldable pub opened : (Task → Going → Course) → Task → ℕ → Going → Course
+opened copy T n g = further (copy Count (named n g)) (λ h. returned (g .names) (copy (opening T (h .names)) (named n g)))
+
+-- Channel and message of a thread's own offer are judged.
+unfoldable pub offered : Bound → Prefix → Process → Going → Course
+offered ρ p P g = unless (overPrefix ρ p P (g .names)) (going g)
+
+-- Whether an output (kind 2) or an input at a position is one that is looked for, but for its channel.
+unfoldable pub eligible : Quest → (at kind : ℕ) → Bool
+eligible q at kind =
+    not (ltb at (q .from)) && not (eqb (at + 1) (q .but)) && (elim (eqb kind 2) [ true ↦ q .output | false ↦ not (q .output) ])
+
+-- A thread's own offer is looked at: whether it is an output or an input, and where it stands; then its channel. The messages of an output
+-- are handed over.
+unfoldable pub sought : Quest → ℕ → Message → (at : ℕ) → Bound → Prefix → Going → Course
+sought q k x at ρ (output C M) g =
+    elim (q .output && not (ltb at (q .from)) && not (eqb (at + 1) (q .but))) [
+      | true ↦ unless (over ρ C) (elim (q .any || same (worked ρ C) x) [
+        | true ↦ unless (over ρ M) (found at k (worked ρ C ∷ worked ρ M ∷ []))
+        | false ↦ going g
+      ])
+      | false ↦ going g
+    ]
+sought q k x at ρ (input C) g =
+    elim (not (q .output) && not (ltb at (q .from)) && not (eqb (at + 1) (q .but))) [
+      | true ↦ unless (over ρ C) (elim (q .any || same (worked ρ C) x) [ true ↦ found at k [] | false ↦ going g ])
+      | false ↦ going g
+    ]
+
+-- A thread is written; or, if it acts, what follows it is settled in its place, the taker's under the message too.
+unfoldable pub built : Plan → Message → (at : ℕ) → Bound → Prefix → Process → (Bound → Going → Course) → Going → Course
+built b x at ρ p P rest g =
+    elim (eqb (at + 1) (b .sender)) [
+      | true ↦ returned (g .names) (rest ρ (named (b .rest) g))
+      | false ↦ elim (eqb (at + 1) (b .taker)) [
+        | true ↦ returned (g .names) (rest (ρ ▸ x) (named (b .last) g))
+        | false ↦ push at (act ρ p P) g
+      ]
+    ]
+
+-- What is done at a thread that acts by itself.
+unfoldable pub atPrefix : Task → Message → (at : ℕ) → Bound → Prefix → Process → (Bound → Going → Course) → Going → Course
+atPrefix Count x at ρ p P rest g = going g
+atPrefix (Judge k) x at ρ p P rest g = offered ρ p P g
+atPrefix Settle x at ρ p P rest g = further (push at (act ρ p P) g) (offered ρ p P)
+atPrefix (Seek q k) x at ρ p P rest g = sought q k x at ρ p g
+atPrefix (SeekIn q c k) x at ρ p P rest g = going g
+atPrefix (Find f past k) x at ρ p P rest g = going g
+atPrefix (Build b k) x at ρ p P rest g = built b x at ρ p P rest g
+atPrefix (BuildIn b c k) x at ρ p P rest g = push at (act ρ p P) g
+
+-- The copies of the repl thread that was meant: its first one, the same one once more, with copies inside it opening at another name, or a
+-- second one.
+unfoldable pub soughtIn : Quest → CopyAt → ℕ → (Task → Going → Course) → Going → Course
+soughtIn q c k copy g =
+    elim (eqb (c .mode) 0) [
+      | true ↦ opened copy (Seek q k) k g
+      | false ↦ elim (eqb (c .mode) 1) [
+        | true ↦ returned (g .names) (copy (Seek q (c .second)) (named k g))
+        | false ↦ opened copy (Seek q k) (c .second) g
+      ]
+    ]
+
+-- What a step leaves of the copies of a repl thread: of a thread that is in the process P, or of the repl thread that was meant.
+unfoldable pub builtCopy : Plan → ℕ → (at : ℕ) → Process → (Task → Going → Course) → Going → Course
+builtCopy b k at P copy g =
+    elim (holds (b .sender) (at + 1) P) [
+      | true ↦ opened copy (Build b k) k g
+      | false ↦ elim (holds (b .taker) (at + 1) P) [
+        | true ↦ elim (eqb (b .sender) 0) [ true ↦ opened copy (Build b k) k g | false ↦ opened copy (Build (taking b) k) (b .second) g ]
+        | false ↦ going g
+      ]
+    ]
+
+unfoldable pub builtCopies : Plan → CopyAt → ℕ → (Task → Going → Course) → Going → Course
+builtCopies b c k copy g =
+    elim (eqb (c .mode) 2) [
+      | true ↦ further (opened copy (Build (sending b) k) k g) (opened copy (Build (taking b) k) (c .second))
+      | false ↦ opened copy (Build b k) k g
+    ]
+
+-- What is done at a repl thread.
+unfoldable pub atRepl : Task → (at : ℕ) → Bound → Process → (Task → Going → Course) → Going → Course
+atRepl Count at ρ P copy g = going g
+atRepl (Judge k) at ρ P copy g = opened copy (Judge k) k g
+atRepl Settle at ρ P copy g = further (push at (repl ρ P) g) (λ h. opened copy (Judge (h .names)) (h .names) h)
+atRepl (Seek q k) at ρ P copy g =
+    elim (holds (q .but) (at + 1) P) [ true ↦ going g | false ↦ opened copy (Seek q k) k g ]
+atRepl (SeekIn q c k) at ρ P copy g =
+    elim (eqb (at + 1) (c .place)) [
+      | true ↦ soughtIn q c k copy g
+      | false ↦ elim (holds (c .place) (at + 1) P) [ true ↦ opened copy (SeekIn q c k) k g | false ↦ going g ]
+    ]
+atRepl (Find f past k) at ρ P copy g =
+    elim (eqb (at + 1) f) [
+      | true ↦ elim past [ true ↦ going g | false ↦ found at k [] ]
+      | false ↦ elim (ltb (at + 1) f && not (holds f (at + 1) P)) [
+        | true ↦ going g
+        | false ↦ further (opened copy (Find f past k) k g) (λ h. found at k [])
+      ]
+    ]
+atRepl (Build b k) at ρ P copy g = further (builtCopy b k at P copy g) (push at (repl ρ P))
+atRepl (BuildIn b c k) at ρ P copy g =
+    further (
+    elim (eqb (at + 1) (c .place)) [
+      | true ↦ builtCopies b c k copy g
+      | false ↦ elim (holds (c .place) (at + 1) P) [ true ↦ opened copy (BuildIn b c k) k g | false ↦ going g ]
+    ]
+    ) (push at (repl ρ P))
+
+-- The walk over a process that stands at a position, for a task and the message of a label.
+unfoldable pub go : Process → Task → Message → (at : ℕ) → Bound → Going → Course
+go Process.nil T x at ρ g = going g
+go (Process.new P) T x at ρ g = go P T x (at + 1) (ρ ▸ leaf (private (g .names))) (named (suc (g .names)) g)
+go (Process.act p P) T x at ρ g = atPrefix T x at ρ p P (λ σ. go P Settle x (restAt at p) σ) g
+go (Process.if M N P Q) T x at ρ g =
+    unless (over ρ M || over ρ N)
+    (elim (equal (written ρ M) (written ρ N)) [ true ↦ go P T x (thenAt at M N) ρ g | false ↦ go Q T x (elseAt at M N P) ρ g ])
+go (Process.let-in M P) T x at ρ g = unless (over ρ M) (go P T x (bodyAt at M) (ρ ▸ worked ρ M) g)
+go (Process.par P Q) T x at ρ g = further (go P T x (at + 1) ρ g) (go Q T x (rightAt at P) ρ)
+go (Process.repl P) T x at ρ g = atRepl T at ρ P (λ U. go P U x (at + 1) ρ) g

@@ -1,0 +1,4 @@
+// What a walk does at a thread that acts by itself: its offers judged, sought and handed over ("Steps"; "Judging and its count").
+pub mod place;
+pub mod task;
+pub mod thread;

@@ -1,0 +1,43 @@
+// Positions in a process: the branch of an if, what follows a thread, whether a mark is in it ("Steps").
+use messages::node;
+use reading::ends;
+ghost use Prim.Native.Nat.{_<_};
+ghost use lib.ListN.{length};
+ghost use Rattle.threads.specs.Thread.{Chosen, Held, Rests};
+
+// The kind of an output.
+const OUTPUT: usize = 2;
+
+// The branch that an if takes: the first process behind its terms, or the second.
+pub fn chosen(s: &[u8], at: usize, same: bool) -> usize
+    ensures { λ r. ⌜ Chosen (now (s .entry)) at same r ⌝ }
+{
+    if same {
+        return at;
+    }
+    ends::process(s, at)
+}
+
+// Whether the process at a position has the position of a mark in it.
+pub fn holds(s: &[u8], at: usize, mark: usize) -> bool
+    ensures { λ r. ⌜ Held (now (s .entry)) at mark r ⌝ }
+{
+    if mark <= at {
+        return false;
+    }
+    if mark <= ends::process(s, at) {
+        return true;
+    }
+    false
+}
+
+// Where the process stands that follows the thread at a position.
+pub fn rest(s: &[u8], at: usize) -> usize
+    requires { ⌜ at < length (now s) ⌝ }
+    ensures { λ r. ⌜ Rests (now (s .entry)) at r ⌝ }
+{
+    if node::wide(s[at]) == OUTPUT {
+        return ends::terms(s, at + 1, 2);
+    }
+    ends::terms(s, at + 1, 1)
+}

@@ -1,0 +1,170 @@
+-- What a call of the walk promises: its answer and the bytes show the course of the walk ("Steps"). Assumes nothing.
+use mathlib.Core.Path.{_≡_}
+use mathlib.Core.Bool.{Bool, true, false}
+use mathlib.Core.List.{List, [], _∷_, _++_}
+use Prim.Native.Nat.{ℕ, _+_, _-_, _*_, _≤_}
+use lib.Dec.{eqb}
+use lib.ListN.{length, getD}
+use Rattle.meaning.specs.Messages.Term.{Message, Term}
+use Rattle.meaning.specs.Messages.Equation.{Normal}
+use Rattle.meaning.specs.Bytes.Process.{Prefix, Process}
+use Rattle.meaning.specs.Bytes.Encoding.{encodeProcess}
+use Rattle.meaning.specs.Bytes.Nesting.{variables}
+use Rattle.meaning.specs.Bytes.Standing.{Stands}
+use Rattle.meaning.specs.Places.{Every}
+use Rattle.meaning.specs.Steps.State.{Bound, _▸_}
+use Rattle.messages.specs.Encoding.{encodeMessage}
+use Rattle.terms.specs.Bound.{BoundTo}
+use Rattle.states.specs.Place.{ProcessAt, bodyAt, restAt}
+use Rattle.states.specs.Shown.{Shows, ShowsCourse}
+use Rattle.walks.specs.News.{news, laterNews}
+use Rattle.states.specs.Course.{Going, Course, going, over-limit, found, further, named, returned}
+use Rattle.threads.specs.Machine.{opened, sending, taking, built, soughtIn, builtCopy, builtCopies, holds, atPrefix, atRepl, go}
+use Rattle.threads.specs.declared.task.Task.{Task}
+use Rattle.threads.specs.declared.task.Task.the-variants.{Count, Judge, Settle, Seek, SeekIn, Find, Build, BuildIn}
+use Rattle.threads.specs.declared.task.Quest.{Quest}
+use Rattle.threads.specs.declared.task.CopyAt.{CopyAt}
+use Rattle.threads.specs.declared.task.Plan.{Plan}
+use Rattle.states.specs.declared.progress.Progress.{Progress}
+
+-- The private names of a task, at which copies open or something is settled.
+abbrev pub numbersOf : Task → List ℕ
+numbersOf Count = []
+numbersOf (Judge k) = k ∷ []
+numbersOf Settle = []
+numbersOf (Seek q k) = k ∷ []
+numbersOf (SeekIn q c k) = k ∷ c .second ∷ []
+numbersOf (Find f past k) = k ∷ []
+numbersOf (Build b k) = k ∷ b .second ∷ b .rest ∷ b .last ∷ []
+numbersOf (BuildIn b c k) = k ∷ c .second ∷ b .second ∷ b .rest ∷ b .last ∷ []
+
+-- Two bytes can hold every private name that the walk may take.
+pub record NamesFit (T : Task) (n : ℕ) (P : Process) : Type 0 where
+  pub own : n + news P ≤ 32760
+  pub others : Every (λ k. k + laterNews P ≤ 32760) (numbersOf T)
+
+-- The marks of the threads that act are those of an output and of an input.
+abbrev pub MarksMeant : List ℕ → Plan → Type 0
+MarksMeant s b = ((t : ℕ) → t + 1 ≡ b .sender → getD s t 0 ≡ 2) × ((t : ℕ) → t + 1 ≡ b .taker → getD s t 0 ≡ 3)
+
+abbrev pub Meant : List ℕ → Task → Type 0
+Meant s Count = Unit {0}
+Meant s (Judge k) = Unit {0}
+Meant s Settle = Unit {0}
+Meant s (Seek q k) = Unit {0}
+Meant s (SeekIn q c k) = Unit {0}
+Meant s (Find f past k) = Unit {0}
+Meant s (Build b k) = MarksMeant s b
+Meant s (BuildIn b c k) = MarksMeant s b
+
+-- What a walk starts from: a process at a position, the message of a label, the messages that are bound, and room for whatever the
+-- process may bind or work.
+pub record Ready (s label : List ℕ) (at left : ℕ) (m : List ℕ) (end : ℕ) (T : Task) (P : Process) (x : Message) (ρ : Bound) (g : Going) : Type 0
+  where
+    pub next : ℕ
+    pub process : ProcessAt s at left (length ρ) P next
+    pub shallow : left ≤ 64
+    pub short : length s ≤ 4096
+    pub labelled : label ≡ encodeMessage x
+    pub small : length label ≤ 510
+    pub normal : Normal x
+    pub bound : BoundTo m 0 ρ end
+    pub room : end + 512 * variables P + 4606 ≤ length m
+    pub fits : NamesFit T (g .names) P
+    pub meant : Meant s T
+
+-- Whatever process stands there, the answer and the bytes after the call show the course of the walk over it.
+pub record NodeWalks (s label : List ℕ) (at left : ℕ) (m : List ℕ) (end : ℕ) (T : Task) (out : List ℕ) (now r : Progress) (after : List ℕ)
+    : Type 0 where
+  pub exact : (P : Process) (x : Message) (ρ : Bound) (g : Going) → Ready s label at left m end T P x ρ g → Shows s out now g
+      → ShowsCourse s after r (go P T x at ρ g)
+
+-- The same, if that process is of a kind.
+pub record WalksIf (kind : ℕ) (s label : List ℕ) (at left : ℕ) (m : List ℕ) (end : ℕ) (T : Task) (out : List ℕ) (now r : Progress)
+    (after : List ℕ) : Type 0 where
+  pub exact : getD s at 0 ≡ kind → NodeWalks s label at left m end T out now r after
+
+-- The same, and a walk that goes no further is left as it is.
+pub record Walks (s label : List ℕ) (at left : ℕ) (m : List ℕ) (end : ℕ) (T : Task) (out : List ℕ) (now r : Progress) (after : List ℕ) : Type 0
+  where
+    pub stopped : now .going ≡ false → (r ≡ now) × (after ≡ out)
+    pub walks : NodeWalks s label at left m end T out now r after
+
+-- The same with the next private name from before given back.
+pub record Returns (before : ℕ) (s label : List ℕ) (at left : ℕ) (m : List ℕ) (end : ℕ) (T : Task) (out : List ℕ) (now r : Progress)
+    (after : List ℕ) : Type 0 where
+  pub exact : (P : Process) (x : Message) (ρ : Bound) (g : Going) → Ready s label at left m end T P x ρ g → Shows s out now g
+      → ShowsCourse s after r (returned before (go P T x at ρ g))
+
+-- A thread that acts by itself.
+pub record AtPrefix (s label : List ℕ) (at left : ℕ) (m : List ℕ) (end : ℕ) (T : Task) (out : List ℕ) (now r : Progress) (after : List ℕ) : Type 0
+  where
+    pub exact : (p : Prefix) (P : Process) (x : Message) (ρ : Bound) (g : Going) → Ready s label at left m end T (Process.act p P) x ρ g
+        → Shows s out now g → ShowsCourse s after r (atPrefix T x at ρ p P (λ σ. go P Settle x (restAt at p) σ) g)
+
+pub record ActsAs (b : Plan) (s label : List ℕ) (at left : ℕ) (m : List ℕ) (end : ℕ) (out : List ℕ) (now r : Progress) (after : List ℕ) : Type 0
+  where
+    pub exact : (p : Prefix) (P : Process) (x : Message) (ρ : Bound) (g : Going) {k : ℕ}
+        → Ready s label at left m end (Build b k) (Process.act p P) x ρ g → Shows s out now g
+        → ShowsCourse s after r (built b x at ρ p P (λ σ. go P Settle x (restAt at p) σ) g)
+
+-- What follows it, settled at the private name n, under the messages that are bound; and what follows an input, under that of the label too.
+pub record Follows (n : ℕ) (s label : List ℕ) (at left : ℕ) (m : List ℕ) (end : ℕ) (out : List ℕ) (now r : Progress) (after : List ℕ) : Type 0
+  where
+    pub exact : (p : Prefix) (P : Process) (x : Message) (ρ : Bound) (g : Going) {next : ℕ}
+        → Stands s at (encodeProcess (Process.act p P)) next → Ready s label (restAt at p) (left - 1) m end Settle P x ρ (named n g)
+        → Shows s out now g → ShowsCourse s after r (returned (g .names) (go P Settle x (restAt at p) ρ (named n g)))
+
+pub record Receives (n : ℕ) (s label : List ℕ) (at left : ℕ) (m : List ℕ) (end : ℕ) (out : List ℕ) (now r : Progress) (after : List ℕ) : Type 0
+  where
+    pub exact : (C : Term) (P : Process) (x : Message) (ρ : Bound) (g : Going) {T : Task}
+        → Ready s label at left m end T (Process.act (Prefix.input C) P) x ρ g → n + news P ≤ 32760 → Shows s out now g
+        → ShowsCourse s after r (returned (g .names) (go P Settle x (bodyAt at C) (ρ ▸ x) (named n g)))
+
+-- What is done at a repl thread that stands at a position, or in its copies.
+abbrev pub AtThread : Type 0
+AtThread = Process → Message → Bound → Going → Course
+
+abbrev pub copyOf : ℕ → Process → Message → Bound → Task → Going → Course
+copyOf at P x ρ U = go P U x (at + 1) ρ
+
+abbrev pub onRepl : Task → (at : ℕ) → AtThread
+onRepl T at P x ρ g = atRepl T at ρ P (copyOf at P x ρ) g
+
+abbrev pub onTarget : Quest → CopyAt → ℕ → (at : ℕ) → AtThread
+onTarget q c k at P x ρ g = soughtIn q c k (copyOf at P x ρ) g
+
+abbrev pub onLast : ℕ → Bool → ℕ → (at : ℕ) → AtThread
+onLast f past k at P x ρ g = further (opened (copyOf at P x ρ) (Find f past k) k g) (λ h. found at k [])
+
+abbrev pub onCopy : Plan → ℕ → (at : ℕ) → AtThread
+onCopy b k at P x ρ g = builtCopy b k at P (copyOf at P x ρ) g
+
+abbrev pub onWay : Plan → CopyAt → ℕ → (at : ℕ) → AtThread
+onWay b c k at P x ρ g =
+    elim (eqb (at + 1) (c .place)) [
+      | true ↦ builtCopies b c k (copyOf at P x ρ) g
+      | false ↦ elim (holds (c .place) (at + 1) P) [ true ↦ opened (copyOf at P x ρ) (BuildIn b c k) k g | false ↦ going g ]
+    ]
+
+abbrev pub onTwo : Plan → CopyAt → ℕ → (at : ℕ) → AtThread
+onTwo b c k at P x ρ g =
+    further (opened (copyOf at P x ρ) (Build (sending b) k) k g) (opened (copyOf at P x ρ) (Build (taking b) k) (c .second))
+
+pub record AtRepl (F : AtThread) (T : Task) (s label : List ℕ) (at left : ℕ) (m : List ℕ) (end : ℕ) (out : List ℕ) (now r : Progress)
+    (after : List ℕ) : Type 0 where
+  pub exact : (P : Process) (x : Message) (ρ : Bound) (g : Going) → Ready s label at left m end T (Process.repl P) x ρ g → Shows s out now g
+      → ShowsCourse s after r (F P x ρ g)
+
+-- A copy of a repl thread, opened at the private name n for a task.
+pub record Opens (T : Task) (n : ℕ) (s label : List ℕ) (at left : ℕ) (m : List ℕ) (end : ℕ) (out : List ℕ) (now r : Progress)
+    (after : List ℕ) : Type 0 where
+  pub exact : (P : Process) (x : Message) (ρ : Bound) (g : Going) → Ready s label at left m end T (Process.repl P) x ρ g
+      → n + news P ≤ 32760 → Shows s out now g → ShowsCourse s after r (opened (copyOf at P x ρ) T n g)
+
+-- What is left of a second copy, which takes, after what has come before.
+pub record TakesAfter (b : Plan) (c : CopyAt) (k : ℕ) (s label : List ℕ) (at left : ℕ) (m : List ℕ) (end : ℕ) (out : List ℕ) (now r : Progress)
+    (after : List ℕ) : Type 0 where
+  pub exact : (P : Process) (x : Message) (ρ : Bound) (g : Going) → Ready s label at left m end (BuildIn b c k) (Process.repl P) x ρ g
+      → (d : Course) → ((h : Going) → d ≡ going h → h .names ≡ g .names) → ShowsCourse s out now d
+      → ShowsCourse s after r (further d (opened (copyOf at P x ρ) (Build (taking b) k) (c .second)))
