@@ -1,7 +1,4 @@
 -- The laws by which the readers meet their contracts. Assumes nothing.
-pub mod Table
-pub mod Number
-pub mod Bounded
 pub mod Head
 pub mod Headed
 pub mod Node
@@ -10,5 +7,3 @@ pub mod Alike
 pub mod Rows
 pub mod Sorts
 pub mod Whole
-pub mod Standing
-pub mod Ends

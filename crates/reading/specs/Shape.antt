@@ -5,17 +5,13 @@ use mathlib.Core.Bool.{Bool, true, _&&_, _||_}
 use mathlib.Core.List.{List}
 use lib.Dec.{leb, ltb, eqb}
 use lib.ListN.{length}
-use Rattle.meaning.specs.Bytes.Number.{Read, found, andThen, provided, number}
+use Rattle.meaning.specs.Bytes.Number.{Read, found, andThen, provided}
 use Rattle.meaning.specs.Bytes.Reading.{field, process, formula}
-use Rattle.reading.specs.declared.answer.Refusal.{Refusal}
-use Rattle.reading.specs.declared.answer.Refusal.the-variants.{UnknownKind, NameRange, OutOfScope}
-use Rattle.reading.specs.declared.layout.Layout.{Layout}
-use Rattle.reading.specs.Answer.{Extent, refusalNumber, extent}
-use Rattle.reading.specs.Layout.{fields, binds, step, parts, layoutOf, processLayouts, formulaLayouts}
-
--- A number that is refused for this reason unless it is below the limit.
-unfoldable pub numberBelow : (limit : ℕ) → Refusal → List ℕ → (at : ℕ) → Read ℕ
-numberBelow limit why s at = andThen (number s at) (λ n end. provided (ltb n limit) (refusalNumber why) at n end)
+use Rattle.layouts.specs.declared.answer.Refusal.the-variants.{UnknownKind, NameRange, OutOfScope}
+use Rattle.layouts.specs.declared.layout.Layout.{Layout}
+use Rattle.layouts.specs.Answer.{Extent, extent}
+use Rattle.layouts.specs.Bounded.{numberBelow}
+use Rattle.layouts.specs.Layout.{fields, binds, step, parts, layoutOf, processLayouts, formulaLayouts}
 
 -- One of so many kinds, refused as nested too deep unless a node is left and there is room for it, with its own fields.
 unfoldable pub headOf : (kinds left : ℕ) (room : ℕ → Bool) (own : ℕ → ℕ → Extent) → List ℕ → (at : ℕ) → Read ℕ

@@ -2,22 +2,12 @@
 -- same names with a small first letter. Assumes nothing.
 use mathlib.Core.Path.{_≡_}
 use mathlib.Core.List.{List}
-use Prim.Native.Nat.{ℕ, _≤_}
-use Rattle.meaning.specs.Bytes.Number.{found}
+use Prim.Native.Nat.{ℕ}
 use Rattle.meaning.specs.Bytes.WellFormed.{Bytes}
-use Rattle.meaning.specs.Bytes.Reading.{term, process, formula, readModel, readFormula}
-use Rattle.reading.specs.declared.answer.Answer.{Answer}
-use Rattle.reading.specs.declared.number.Numeral.{Numeral}
-use Rattle.reading.specs.Answer.{answer, numeral, extent}
+use Rattle.meaning.specs.Bytes.Reading.{readModel, readFormula}
+use Rattle.layouts.specs.declared.answer.Answer.{Answer}
+use Rattle.layouts.specs.Answer.{answer, extent}
 use Rattle.reading.specs.Exact.{ModelAnswer, FormulaAnswer}
-use Rattle.reading.specs.Ends.{TermEnd, ProcessEnd, FormulaEnd}
-
--- A promise leaves one answer only.
-abbrev pub AnswersFixed : Type 0
-AnswersFixed = (a b : Answer) → answer a ≡ answer b → a ≡ b
-
-abbrev pub NumeralsFixed : Type 0
-NumeralsFixed = (s : List ℕ) (at : ℕ) (a b : Numeral) → numeral s at a ≡ numeral s at b → a ≡ b
 
 -- An answer that says of a slice what the reader of `meaning` says is the one that the rules ask for.
 abbrev pub ModelsExact : Type 0
@@ -25,11 +15,3 @@ ModelsExact = (s : List ℕ) → Bytes s → (a : Answer) → answer a ≡ exten
 
 abbrev pub FormulasExact : Type 0
 FormulasExact = (s : List ℕ) → Bytes s → (a : Answer) → answer a ≡ extent (readFormula s) → FormulaAnswer s a
-
--- Where something is read, with at most 12 variables in scope of a process, its end is the one that the reader found.
-abbrev pub EndsAgree : Type 0
-EndsAgree =
-    (s : List ℕ) → Bytes s → (left scope at end r : ℕ)
-    → (extent (term left scope s at) ≡ found tt end → TermEnd s at r → r ≡ end)
-    × (scope ≤ 12 → extent (process left scope s at) ≡ found tt end → ProcessEnd s at r → r ≡ end)
-    × ((steps : ℕ) → extent (formula left steps scope s at) ≡ found tt end → FormulaEnd s at r → r ≡ end)

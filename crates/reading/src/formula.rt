@@ -1,15 +1,15 @@
 // Formulas ("Bytes", the formula kinds; 2 to 7).
-use crate::answer::Answer;
-use crate::answer::Refusal;
-use crate::layout;
-use crate::layout::Layout;
-use crate::number;
-use crate::number::Bounded;
 use crate::term;
+use layouts::answer::Answer;
+use layouts::answer::Refusal;
+use layouts::layout;
+use layouts::layout::Layout;
+use layouts::number;
+use layouts::number::Bounded;
 ghost use mathlib.Core.Path.{_≡_};
 ghost use Prim.Native.Nat.{_+_, _≤_};
 ghost use Rattle.meaning.specs.Bytes.Reading.{formula};
-ghost use Rattle.reading.specs.Answer.{answer, bounded, extent};
+ghost use Rattle.layouts.specs.Answer.{answer, bounded, extent};
 ghost use Rattle.reading.specs.Shape.{formulaRoom, formulaHead};
 
 // Whether one more step formula may stand on the path, if the kind is one.

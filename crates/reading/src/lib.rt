@@ -1,18 +1,14 @@
 // Reading models and formulas from bytes: the refusals 1 to 8 with their places, or the end of what stands there
 // ("Bytes"; "Turned back for the input").
-pub mod answer;
-pub mod ends;
 mod formula;
-mod layout;
-pub mod number;
 mod process;
 mod term;
 
-use answer::Answer;
-use answer::Refusal;
+use layouts::answer::Answer;
+use layouts::answer::Refusal;
 ghost use mathlib.Core.Path.{_≡_};
 ghost use Rattle.meaning.specs.Bytes.Reading.{readModel, readFormula};
-ghost use Rattle.reading.specs.Answer.{answer, extent};
+ghost use Rattle.layouts.specs.Answer.{answer, extent};
 ghost use Rattle.reading.specs.Exact.{ModelAnswer, FormulaAnswer};
 ghost use Rattle.reading.specs.Shape.{toTheEnd};
 

@@ -1,13 +1,13 @@
 // Terms ("Bytes", the term kinds; 2 to 7).
-use crate::answer::Answer;
-use crate::answer::Refusal;
-use crate::layout;
-use crate::layout::Layout;
-use crate::number;
-use crate::number::Bounded;
+use layouts::answer::Answer;
+use layouts::answer::Refusal;
+use layouts::layout;
+use layouts::layout::Layout;
+use layouts::number;
+use layouts::number::Bounded;
 ghost use mathlib.Core.Path.{_≡_};
 ghost use Rattle.meaning.specs.Bytes.Reading.{term};
-ghost use Rattle.reading.specs.Answer.{answer, bounded, extent};
+ghost use Rattle.layouts.specs.Answer.{answer, bounded, extent};
 ghost use Rattle.reading.specs.Shape.{leaf, termHead, termsAt};
 
 // The most term nodes on one path, and how many public names there are.

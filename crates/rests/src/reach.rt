@@ -1,8 +1,8 @@
 // The way from a thread's process down to the process at a mark, under the messages that are bound there ("Steps"). A mark is a position
 // and one more. Nothing is validated again: where no process stands, or a limit is met on the way, the answer is open.
 use crate::count;
+use layouts::ends;
 use messages::node;
-use reading::ends;
 use states::progress::Progress;
 use terms::bind;
 use terms::work::Worked;

@@ -9,14 +9,13 @@ use Rattle.meaning.specs.Messages.Normal.{same}
 use Rattle.meaning.specs.Bytes.Process.{Prefix, Process}
 use Rattle.meaning.specs.Bytes.Encoding.{encodeProcess}
 use Rattle.meaning.specs.Bytes.Standing.{Stands}
-use Rattle.meaning.specs.Steps.State.{Bound, worked, Thread, act}
+use Rattle.meaning.specs.Steps.State.{Bound, worked, act}
 use Rattle.meaning.specs.Judging.Limits.{over}
 use Rattle.messages.specs.Encoding.{encodeMessage}
-use Rattle.reading.specs.Ends.{ProcessEnd}
+use Rattle.layouts.specs.Ends.{ProcessEnd}
 use Rattle.terms.specs.Bound.{BoundTo}
 use Rattle.terms.specs.Work.{TermAt}
 use Rattle.states.specs.Place.{ProcessAt, bodyAt, restAt}
-use Rattle.states.specs.Record.{Standing, boundOf}
 use Rattle.states.specs.Course.{Going, Course, going, found, further, unless, push}
 use Rattle.threads.specs.Machine.{holds, offered, sought}
 use Rattle.states.specs.Shown.{Shows, ShowsCourse, Over, encodeMessages}

@@ -1,8 +1,8 @@
 // What is done at a thread that acts by itself, for the tasks that do not follow it further ("Steps"; "Judging and its count").
 use crate::task::Quest;
+use layouts::ends;
 use messages::node;
 use messages::run;
-use reading::ends;
 use states::progress;
 use states::progress::Progress;
 use states::state::State;

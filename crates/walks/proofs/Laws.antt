@@ -7,10 +7,7 @@ pub mod Settling
 pub mod Walk
 pub mod Copy
 pub mod Prefix
-pub mod Aim
 pub mod Repl
-pub mod Aims
-pub mod Rebuild
 pub mod Form
 pub mod Small
 pub mod Visit

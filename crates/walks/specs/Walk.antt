@@ -1,9 +1,8 @@
 -- What a call of the walk promises: its answer and the bytes show the course of the walk ("Steps"). Assumes nothing.
 use mathlib.Core.Path.{_≡_}
-use mathlib.Core.Bool.{Bool, true, false}
-use mathlib.Core.List.{List, [], _∷_, _++_}
+use mathlib.Core.Bool.{false}
+use mathlib.Core.List.{List, [], _∷_}
 use Prim.Native.Nat.{ℕ, _+_, _-_, _*_, _≤_}
-use lib.Dec.{eqb}
 use lib.ListN.{length, getD}
 use Rattle.meaning.specs.Messages.Term.{Message, Term}
 use Rattle.meaning.specs.Messages.Equation.{Normal}
@@ -13,18 +12,22 @@ use Rattle.meaning.specs.Bytes.Nesting.{variables}
 use Rattle.meaning.specs.Bytes.Standing.{Stands}
 use Rattle.meaning.specs.Places.{Every}
 use Rattle.meaning.specs.Steps.State.{Bound, _▸_}
+use Rattle.messages.specs.Buffer.{Within}
 use Rattle.messages.specs.Encoding.{encodeMessage}
 use Rattle.terms.specs.Bound.{BoundTo}
 use Rattle.states.specs.Place.{ProcessAt, bodyAt, restAt}
+use Rattle.states.specs.Progress.{Extends}
 use Rattle.states.specs.Shown.{Shows, ShowsCourse}
 use Rattle.walks.specs.News.{news, laterNews}
-use Rattle.states.specs.Course.{Going, Course, going, over-limit, found, further, named, returned}
-use Rattle.threads.specs.Machine.{opened, sending, taking, built, soughtIn, builtCopy, builtCopies, holds, atPrefix, atRepl, go}
+use Rattle.states.specs.Course.{Going, Course, going, further, named, returned}
+use Rattle.threads.specs.Machine.{opened, built, atPrefix, go}
+use Rattle.repls.specs.Copies.{openedBy, inCopies, lastly}
 use Rattle.threads.specs.declared.task.Task.{Task}
 use Rattle.threads.specs.declared.task.Task.the-variants.{Count, Judge, Settle, Seek, SeekIn, Find, Build, BuildIn}
-use Rattle.threads.specs.declared.task.Quest.{Quest}
-use Rattle.threads.specs.declared.task.CopyAt.{CopyAt}
 use Rattle.threads.specs.declared.task.Plan.{Plan}
+use Rattle.repls.specs.declared.copies.Opening.{Opening}
+use Rattle.repls.specs.declared.copies.Opening.the-variants.{None, Copy, Again}
+use Rattle.repls.specs.declared.copies.Copies.{Copies}
 use Rattle.states.specs.declared.progress.Progress.{Progress}
 
 -- The private names of a task, at which copies open or something is settled.
@@ -72,6 +75,10 @@ pub record Ready (s label : List ℕ) (at left : ℕ) (m : List ℕ) (end : ℕ)
     pub room : end + 512 * variables P + 4606 ≤ length m
     pub fits : NamesFit T (g .names) P
     pub meant : Meant s T
+
+-- What every call leaves as it was: where the state begins and that it ends no earlier, the messages that are bound, and the records.
+abbrev pub Leaves : (end : ℕ) (m m₁ out out₁ : List ℕ) (now r : Progress) → Type 0
+Leaves end m m₁ out out₁ now r = Extends now r × Within end (length m) m m₁ × Within (now .state .end) (length out) out out₁
 
 -- Whatever process stands there, the answer and the bytes after the call show the course of the walk over it.
 pub record NodeWalks (s label : List ℕ) (at left : ℕ) (m : List ℕ) (end : ℕ) (T : Task) (out : List ℕ) (now r : Progress) (after : List ℕ)
@@ -121,50 +128,44 @@ pub record Receives (n : ℕ) (s label : List ℕ) (at left : ℕ) (m : List ℕ
         → Ready s label at left m end T (Process.act (Prefix.input C) P) x ρ g → n + news P ≤ 32760 → Shows s out now g
         → ShowsCourse s after r (returned (g .names) (go P Settle x (bodyAt at C) (ρ ▸ x) (named n g)))
 
--- What is done at a repl thread that stands at a position, or in its copies.
-abbrev pub AtThread : Type 0
-AtThread = Process → Message → Bound → Going → Course
+-- A copy of a repl thread of the process P can be opened: two bytes hold every private name that it may take, and its marks are meant.
+pub record CanOpen (s : List ℕ) (P : Process) (T : Task) (n : ℕ) : Type 0 where
+  pub own : n + news P ≤ 32760
+  pub others : Every (λ k. k + news P ≤ 32760) (numbersOf T)
+  pub meant : Meant s T
 
+abbrev pub Openable : List ℕ → Process → Opening → Type 0
+Openable s P None = Unit {0}
+Openable s P (Copy T n) = CanOpen s P T n
+Openable s P (Again T n) = CanOpen s P T n
+
+abbrev pub AllOpenable : List ℕ → Process → Copies → Type 0
+AllOpenable s P c = Openable s P (c .first) × Openable s P (c .second)
+
+-- A copy of a repl thread, opened at the private name n for a task.
 abbrev pub copyOf : ℕ → Process → Message → Bound → Task → Going → Course
 copyOf at P x ρ U = go P U x (at + 1) ρ
 
-abbrev pub onRepl : Task → (at : ℕ) → AtThread
-onRepl T at P x ρ g = atRepl T at ρ P (copyOf at P x ρ) g
-
-abbrev pub onTarget : Quest → CopyAt → ℕ → (at : ℕ) → AtThread
-onTarget q c k at P x ρ g = soughtIn q c k (copyOf at P x ρ) g
-
-abbrev pub onLast : ℕ → Bool → ℕ → (at : ℕ) → AtThread
-onLast f past k at P x ρ g = further (opened (copyOf at P x ρ) (Find f past k) k g) (λ h. found at k [])
-
-abbrev pub onCopy : Plan → ℕ → (at : ℕ) → AtThread
-onCopy b k at P x ρ g = builtCopy b k at P (copyOf at P x ρ) g
-
-abbrev pub onWay : Plan → CopyAt → ℕ → (at : ℕ) → AtThread
-onWay b c k at P x ρ g =
-    elim (eqb (at + 1) (c .place)) [
-      | true ↦ builtCopies b c k (copyOf at P x ρ) g
-      | false ↦ elim (holds (c .place) (at + 1) P) [ true ↦ opened (copyOf at P x ρ) (BuildIn b c k) k g | false ↦ going g ]
-    ]
-
-abbrev pub onTwo : Plan → CopyAt → ℕ → (at : ℕ) → AtThread
-onTwo b c k at P x ρ g =
-    further (opened (copyOf at P x ρ) (Build (sending b) k) k g) (opened (copyOf at P x ρ) (Build (taking b) k) (c .second))
-
-pub record AtRepl (F : AtThread) (T : Task) (s label : List ℕ) (at left : ℕ) (m : List ℕ) (end : ℕ) (out : List ℕ) (now r : Progress)
-    (after : List ℕ) : Type 0 where
-  pub exact : (P : Process) (x : Message) (ρ : Bound) (g : Going) → Ready s label at left m end T (Process.repl P) x ρ g → Shows s out now g
-      → ShowsCourse s after r (F P x ρ g)
-
--- A copy of a repl thread, opened at the private name n for a task.
 pub record Opens (T : Task) (n : ℕ) (s label : List ℕ) (at left : ℕ) (m : List ℕ) (end : ℕ) (out : List ℕ) (now r : Progress)
     (after : List ℕ) : Type 0 where
   pub exact : (P : Process) (x : Message) (ρ : Bound) (g : Going) → Ready s label at left m end T (Process.repl P) x ρ g
       → n + news P ≤ 32760 → Shows s out now g → ShowsCourse s after r (opened (copyOf at P x ρ) T n g)
 
--- What is left of a second copy, which takes, after what has come before.
-pub record TakesAfter (b : Plan) (c : CopyAt) (k : ℕ) (s label : List ℕ) (at left : ℕ) (m : List ℕ) (end : ℕ) (out : List ℕ) (now r : Progress)
+-- After what has come before, which leaves the next private name as it was: a copy, or none; both copies; and then the thread itself.
+pub record OpensBy (o : Opening) (s label : List ℕ) (at left : ℕ) (m : List ℕ) (end : ℕ) (out : List ℕ) (now r : Progress)
     (after : List ℕ) : Type 0 where
-  pub exact : (P : Process) (x : Message) (ρ : Bound) (g : Going) → Ready s label at left m end (BuildIn b c k) (Process.repl P) x ρ g
-      → (d : Course) → ((h : Going) → d ≡ going h → h .names ≡ g .names) → ShowsCourse s out now d
-      → ShowsCourse s after r (further d (opened (copyOf at P x ρ) (Build (taking b) k) (c .second)))
+  pub exact : (P : Process) (x : Message) (ρ : Bound) (g : Going) {T : Task} → Ready s label at left m end T (Process.repl P) x ρ g
+      → Openable s P o → (d : Course) → ((h : Going) → d ≡ going h → h .names ≡ g .names) → ShowsCourse s out now d
+      → ShowsCourse s after r (further d (openedBy o (copyOf at P x ρ)))
+
+pub record OpensBoth (c : Copies) (s label : List ℕ) (at left : ℕ) (m : List ℕ) (end : ℕ) (out : List ℕ) (now r : Progress)
+    (after : List ℕ) : Type 0 where
+  pub exact : (P : Process) (x : Message) (ρ : Bound) (g : Going) {T : Task} → Ready s label at left m end T (Process.repl P) x ρ g
+      → AllOpenable s P c → (d : Course) → ((h : Going) → d ≡ going h → h .names ≡ g .names) → ShowsCourse s out now d
+      → ShowsCourse s after r (inCopies c (copyOf at P x ρ) d)
+
+pub record Performs (c : Copies) (s label : List ℕ) (at left : ℕ) (m : List ℕ) (end : ℕ) (out : List ℕ) (now r : Progress)
+    (after : List ℕ) : Type 0 where
+  pub exact : (P : Process) (x : Message) (ρ : Bound) (g : Going) {T : Task} → Ready s label at left m end T (Process.repl P) x ρ g
+      → AllOpenable s P c → (d : Course) → ((h : Going) → d ≡ going h → h .names ≡ g .names) → ShowsCourse s out now d
+      → ShowsCourse s after r (further (inCopies c (copyOf at P x ρ) d) (lastly (c .own) at ρ P))

@@ -4,7 +4,6 @@ use states::progress::Progress;
 use states::state::State;
 use states::stored;
 use threads::task::Task;
-ghost use mathlib.Core.Path.{_≡_};
 ghost use Prim.Native.Nat.{_+_, _≤_};
 ghost use lib.ListN.{length};
 ghost use Rattle.messages.specs.Buffer.{Within};

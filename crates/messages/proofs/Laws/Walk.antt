@@ -11,8 +11,8 @@ use lib.ListN.{length, getD, drop, length-append, length-drop}
 use Rattle.meaning.specs.Messages.Term.{Side, Binary, sideKind, binaryKind, Message, leaf, proj, binary, nodes}
 use Rattle.meaning.specs.Bytes.Standing.{Stands}
 use Rattle.meaning.proofs.Bytes.Reading.Place.{parts, _⨾_}
-use Rattle.reading.specs.Ends.{row, InRow}
-use Rattle.reading.proofs.Laws.Standing.{Walked, alone, starts, done, first-byte, row-append}
+use Rattle.layouts.specs.Ends.{row, InRow}
+use Rattle.layouts.proofs.Laws.Standing.{Walked, alone, starts, done, first-byte, row-append}
 use Rattle.messages.specs.Encoding.{encodeNode, encodeMessage, numberAt, nodeParts, partsOf}
 use Rattle.messages.specs.Run.{SizeOf}
 use Rattle.messages.proofs.Laws.Encoding.{length-encode, headNumber, inner, head-parts, number-read}

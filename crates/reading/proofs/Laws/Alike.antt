@@ -5,7 +5,7 @@ use mathlib.Core.Bool.{Bool, true, false}
 use Prim.Native.Nat.{ℕ, suc}
 use lib.Dec.{T}
 use Rattle.meaning.specs.Bytes.Number.{Read, found, refused, andThen, provided}
-use Rattle.reading.specs.Answer.{Extent, extent}
+use Rattle.layouts.specs.Answer.{Extent, extent}
 use Rattle.reading.specs.Shape.{times}
 
 pub data Alike {A B : Type 0} : Read A → Read B → Type 0 where

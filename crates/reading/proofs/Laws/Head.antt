@@ -7,16 +7,17 @@ use native.Mathlib.Omega.{arith}
 use borrow.Author.Tests.{lt-ltb, eq-eqb, ne-eqb, not-true, not-false}
 use lib.Dec.{ltb}
 use Rattle.meaning.specs.Bytes.Number.{found, refused, andThen}
-use Rattle.reading.specs.Answer.{Extent, refusalNumber, answer, bounded, extent}
-use Rattle.reading.specs.Shape.{numberBelow, headOf, leaf, termsAt, ownTerms, processRoom, formulaRoom}
-use Rattle.reading.specs.declared.layout.Layout.{Layout}
-use Rattle.reading.specs.Layout.{fields, binds, step}
-use Rattle.reading.specs.declared.answer.Refusal.{Refusal}
-use Rattle.reading.specs.declared.answer.Refusal.the-variants.{UnknownKind, NameRange, OutOfScope}
-use Rattle.reading.specs.declared.answer.Answer as answers
-use Rattle.reading.specs.declared.answer.Answer.{Answer}
-use Rattle.reading.specs.declared.number.Bounded as bounds
-use Rattle.reading.specs.declared.number.Bounded.{Bounded}
+use Rattle.layouts.specs.Answer.{Extent, refusalNumber, answer, bounded, extent}
+use Rattle.layouts.specs.Bounded.{numberBelow}
+use Rattle.reading.specs.Shape.{headOf, leaf, termsAt, ownTerms, processRoom, formulaRoom}
+use Rattle.layouts.specs.declared.layout.Layout.{Layout}
+use Rattle.layouts.specs.Layout.{fields, binds, step}
+use Rattle.layouts.specs.declared.answer.Refusal.{Refusal}
+use Rattle.layouts.specs.declared.answer.Refusal.the-variants.{UnknownKind, NameRange, OutOfScope}
+use Rattle.layouts.specs.declared.answer.Answer as answers
+use Rattle.layouts.specs.declared.answer.Answer.{Answer}
+use Rattle.layouts.specs.declared.number.Bounded as bounds
+use Rattle.layouts.specs.declared.number.Bounded.{Bounded}
 
 module _ (kinds left : ℕ) (room : ℕ → Bool) (own : ℕ → ℕ → Extent) (s : List ℕ) (at : ℕ) {r : Bounded}
     (e : bounded r ≡ numberBelow kinds UnknownKind s at) where

@@ -8,11 +8,12 @@ use lib.Dec.{T, ltb, ltb→lt}
 use mir.Facts.{and-yes}
 use Rattle.meaning.specs.Bytes.Number.{Read, found, refused, number}
 use Rattle.meaning.proofs.Bytes.Reader.{Only, holds, fails, and-then, by-provided, of-found}
-use Rattle.reading.specs.Answer.{Extent, bounded}
-use Rattle.reading.specs.Shape.{numberBelow, headOf}
-use Rattle.reading.specs.declared.answer.Refusal.{Refusal}
-use Rattle.reading.specs.declared.number.Bounded.{Bounded}
-use Rattle.reading.specs.declared.number.Bounded.the-variants.{Is}
+use Rattle.layouts.specs.Answer.{Extent, bounded}
+use Rattle.layouts.specs.Bounded.{numberBelow}
+use Rattle.reading.specs.Shape.{headOf}
+use Rattle.layouts.specs.declared.answer.Refusal.{Refusal}
+use Rattle.layouts.specs.declared.number.Bounded.{Bounded}
+use Rattle.layouts.specs.declared.number.Bounded.the-variants.{Is}
 
 anything : {A : Type 0} (x : Read A) → Only (λ a end. Unit {0}) x
 anything (found a end) = holds tt

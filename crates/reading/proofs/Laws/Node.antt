@@ -5,16 +5,16 @@ use Prim.Native.Nat.{ℕ, suc, _-_}
 use native.Mathlib.Omega.{arith}
 use Rattle.meaning.specs.Bytes.Number.{Read, found, refused, andThen}
 use Rattle.meaning.specs.Bytes.Reading.{term}
-use Rattle.reading.specs.Answer.{Extent, refusalNumber, answer, bounded, extent}
+use Rattle.layouts.specs.Answer.{Extent, refusalNumber, answer, bounded, extent}
 use Rattle.reading.specs.Shape.{times, node, termsAt}
-use Rattle.reading.specs.declared.layout.Layout.{Layout}
-use Rattle.reading.specs.Layout.{parts, layoutOf}
-use Rattle.reading.specs.declared.answer.Refusal.{Refusal}
-use Rattle.reading.specs.declared.answer.Answer as answers
-use Rattle.reading.specs.declared.answer.Answer.{Answer}
-use Rattle.reading.specs.declared.number.Bounded as bounds
-use Rattle.reading.specs.declared.number.Bounded.{Bounded}
-use Rattle.reading.proofs.Laws.Table.{FewParts, two-at-most}
+use Rattle.layouts.specs.declared.layout.Layout.{Layout}
+use Rattle.layouts.specs.Layout.{parts, layoutOf}
+use Rattle.layouts.specs.declared.answer.Refusal.{Refusal}
+use Rattle.layouts.specs.declared.answer.Answer as answers
+use Rattle.layouts.specs.declared.answer.Answer.{Answer}
+use Rattle.layouts.specs.declared.number.Bounded as bounds
+use Rattle.layouts.specs.declared.number.Bounded.{Bounded}
+use Rattle.layouts.proofs.Laws.Table.{FewParts, two-at-most}
 
 -- Nothing is done after the last.
 then-done : (x : Extent) → andThen x (λ _ end. found tt end) ≡ x

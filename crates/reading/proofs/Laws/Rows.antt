@@ -10,10 +10,11 @@ use lib.Dec.{T, ltb}
 use lib.ListN.{length, getElem?}
 use Rattle.meaning.specs.Bytes.Number.{Read, andThen, provided, number}
 use Rattle.meaning.specs.Bytes.Reading.{listed, kind, never}
-use Rattle.reading.specs.Answer.{Extent}
-use Rattle.reading.specs.declared.layout.Layout.{Layout}
-use Rattle.reading.specs.Layout.{parts, layoutOf}
-use Rattle.reading.specs.Shape.{numberBelow, headOf, times, node}
+use Rattle.layouts.specs.Answer.{Extent}
+use Rattle.layouts.specs.declared.layout.Layout.{Layout}
+use Rattle.layouts.specs.Layout.{parts, layoutOf}
+use Rattle.layouts.specs.Bounded.{numberBelow}
+use Rattle.reading.specs.Shape.{headOf, times, node}
 use Rattle.reading.proofs.Laws.Alike.{Alike, both-refused, then-alike, test-alike, then-assoc}
 
 -- Rows are written one after the other, `complete` last.

@@ -15,9 +15,10 @@ use Rattle.meaning.specs.Bytes.Process.{Process}
 use Rattle.meaning.specs.Bytes.Formula.{Formula}
 use Rattle.meaning.specs.Bytes.Reading.{always, termFields, term, field, roomFor, processFields, process}
 use Rattle.meaning.specs.Bytes.Reading.{stepsLeft, formulaFields, formula}
-use Rattle.reading.specs.Answer.{extent}
-use Rattle.reading.specs.Layout.{parts, layoutOf, termLayouts, processLayouts, formulaLayouts}
-use Rattle.reading.specs.Shape.{numberBelow, times, node, leaf, termHead, termsAt, ownTerms}
+use Rattle.layouts.specs.Answer.{extent}
+use Rattle.layouts.specs.Layout.{parts, layoutOf, termLayouts, processLayouts, formulaLayouts}
+use Rattle.layouts.specs.Bounded.{numberBelow}
+use Rattle.reading.specs.Shape.{times, node, leaf, termHead, termsAt, ownTerms}
 use Rattle.reading.specs.Shape.{processRoom, processHead, processPart, formulaRoom, formulaHead, formulaPart}
 use Rattle.reading.proofs.Laws.Alike.{Alike, both-end, both-refused, same-extent, and-part, and-field}
 use Rattle.reading.proofs.Laws.Rows.{_also_, complete, Rows, node-alike, too-deep}

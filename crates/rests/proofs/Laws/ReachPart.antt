@@ -17,7 +17,7 @@ use Rattle.meaning.proofs.Messages.{normalForms}
 use Rattle.meaning.proofs.Bytes.Reading.Place.{_⨾_}
 use Rattle.messages.specs.Buffer.{Within}
 use Rattle.messages.proofs.Laws.Buffer.{unchanged}
-use Rattle.reading.specs.Ends.{ProcessEnd, TermsEnd}
+use Rattle.layouts.specs.Ends.{ProcessEnd, TermsEnd}
 use Rattle.terms.specs.Bound.{Binds}
 use Rattle.terms.specs.Work.{BindWorked}
 use Rattle.terms.specs.declared.work.Worked.{Worked}

@@ -9,7 +9,7 @@ use Rattle.meaning.specs.Messages.Term.{Term}
 use Rattle.meaning.specs.Bytes.Process.{Prefix, output, input, Process, nil, new, act, if, let-in, par, repl}
 use Rattle.meaning.specs.Bytes.Encoding.{encodeTerm, encodeProcess}
 use Rattle.meaning.proofs.Bytes.Reading.Place.{parts}
-use Rattle.reading.proofs.Laws.Standing.{first-byte, goes-on}
+use Rattle.layouts.proofs.Laws.Standing.{first-byte, goes-on}
 use Rattle.terms.specs.Work.{TermAt}
 use Rattle.states.specs.Place.{ProcessAt, thenAt, elseAt, bodyAt, rightAt}
 

@@ -8,7 +8,7 @@ use Rattle.meaning.specs.Messages.Term.{Side, Binary, sideKind, binaryKind, Ter
 use Rattle.meaning.specs.Bytes.Encoding.{encodeNumber, encodeTerm}
 use Rattle.meaning.specs.Bytes.Standing.{Stands}
 use Rattle.meaning.proofs.Bytes.Reading.Place.{parts}
-use Rattle.reading.proofs.Laws.Standing.{first-byte, goes-on}
+use Rattle.layouts.proofs.Laws.Standing.{first-byte, goes-on}
 use Rattle.terms.specs.Work.{TermAt}
 
 module _ {s : List ℕ} {at left scope next : ℕ} where

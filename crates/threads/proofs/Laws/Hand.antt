@@ -108,9 +108,6 @@ pub ruleset reaches = (last-above, second-above, last-within, first-within, room
 pub bound-below : {m : List ℕ} {end last : ℕ} {ρ : Bound} → BoundTo m 0 ρ end → end ≤ last → BoundAt m 0 ρ last
 bound-below {end} b l = record { end = end; bound = b; below = l }
 
-pub bound-still : {m m₁ : List ℕ} {end high : ℕ} {ρ : Bound} → BoundTo m 0 ρ end → Within end high m m₁ → BoundTo m₁ 0 ρ end
-bound-still {end} b v = record { stands = kept {low = end} (b .stands) (omega arith) (v .below); few = b .few; normal = b .normal }
-
 -- An input hands over nothing.
 module _ {s m out : List ℕ} {at next end last k kind : ℕ} {now : Progress} (e : kind ≡ getD s at 0) where
   pub hands-nothing : {r : Progress} → kind ≡ 3 → Hits now at k r → Hands s at next m end last k out now r out

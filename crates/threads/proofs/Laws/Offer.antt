@@ -11,7 +11,7 @@ use Rattle.meaning.specs.Steps.State.{Bound}
 use Rattle.meaning.specs.Judging.Limits.{over}
 use Rattle.messages.specs.Buffer.{Within}
 use Rattle.messages.proofs.Laws.Buffer.{kept}
-use Rattle.reading.specs.Ends.{TermEnd}
+use Rattle.layouts.specs.Ends.{TermEnd}
 use Rattle.terms.specs.Bound.{BoundTo, BoundAt}
 use Rattle.terms.specs.Work.{TermAt, Works}
 use Rattle.terms.specs.declared.work.Worked.{Worked}

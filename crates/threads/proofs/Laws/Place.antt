@@ -7,7 +7,7 @@ use native.Mathlib.Omega.{arith}
 use borrow.Author.Tests.{lt-ltb, le-ltb}
 use lib.ListN.{length}
 use Rattle.meaning.specs.Bytes.Encoding.{encodeProcess}
-use Rattle.reading.specs.Ends.{ProcessEnd}
+use Rattle.layouts.specs.Ends.{ProcessEnd}
 use Rattle.threads.specs.Machine.{holds}
 use Rattle.threads.specs.Thread.{Chosen, Held}
 

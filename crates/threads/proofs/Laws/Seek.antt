@@ -20,8 +20,8 @@ use Rattle.messages.specs.Buffer.{Within}
 use Rattle.messages.specs.Run.{alike}
 use Rattle.messages.proofs.Laws.Alike.{same-runs}
 use Rattle.messages.proofs.Laws.Buffer.{part}
-use Rattle.reading.specs.Ends.{TermsEnd}
-use Rattle.reading.proofs.Laws.Standing.{first-byte}
+use Rattle.layouts.specs.Ends.{TermsEnd}
+use Rattle.layouts.proofs.Laws.Standing.{first-byte}
 use Rattle.terms.specs.Bound.{BoundTo}
 use Rattle.terms.specs.Work.{TermAt, Works, Reaches}
 use Rattle.terms.specs.declared.work.Worked.{Worked}
@@ -30,12 +30,14 @@ use Rattle.terms.proofs.Laws.Work.{said-over, said-small}
 use Rattle.states.specs.Place.{ProcessAt, bodyAt, restAt}
 use Rattle.states.specs.Course.{Going, going, unless}
 use Rattle.threads.specs.Machine.{eligible, sought}
-use Rattle.states.specs.Progress.{Extends, Stopped, Hits}
+use Rattle.states.specs.Progress.{Stopped}
 use Rattle.threads.specs.Thread.{Agrees, handedOver, channelOf, Hands, Channels, Seeks, Rests}
 use Rattle.threads.specs.declared.task.Quest.{Quest}
 use Rattle.states.specs.declared.progress.Progress.{Progress}
-use Rattle.threads.proofs.Laws.Hand.{bound-below, bound-still}
+use Rattle.threads.proofs.Laws.Offer.{bound-still}
+use Rattle.threads.proofs.Laws.Hand.{bound-below}
 use Rattle.states.proofs.Laws.Process.{kindOf, process-kind, of-output, of-input}
+use Rattle.states.proofs.Laws.Progress.{unchanged-extends, stopped-extends, hit-extends}
 
 -- Whether an offer is eligible.
 module _ (q : Quest) (at kind : ℕ) where
@@ -69,18 +71,6 @@ module _ {channel label : List ℕ} where
 pub ruleset agreements = (any-agrees, same-agrees)
 
 -- The state begins where it did and ends no earlier.
-by-state : {a b : Progress} → b .state ≡ a .state → Extends a b
-by-state e = record { aliases = rw e; start = rw e; end = rw e (omega arith) }
-
-pub unchanged-extends : {a : Progress} → Extends a a
-unchanged-extends = by-state refl
-
-pub stopped-extends : {a b : Progress} → Stopped a b → Extends a b
-stopped-extends e = by-state (e .state)
-
-pub hit-extends : {a b : Progress} {at k : ℕ} → Hits a at k b → Extends a b
-hit-extends e = by-state (e .state)
-
 pub ruleset found-extends = (unchanged-extends, stopped-extends, hit-extends)
 
 -- The channel of an offer.

@@ -15,14 +15,18 @@ use Rattle.meaning.proofs.Test.{chosen}
 use Rattle.states.specs.Place.{thenAt, elseAt, bodyAt, rightAt, restAt}
 use Rattle.states.specs.Record.{boundOf}
 use Rattle.states.specs.Course.{Going, Course, going, over-limit, found, further, unless, named, returned, push}
-use Rattle.threads.specs.Machine.{holds, opening, sending, taking, opened, offered, sought, built, atPrefix}
-use Rattle.threads.specs.Machine.{soughtIn, builtCopy, builtCopies, atRepl, go}
+use Rattle.threads.specs.Machine.{opening, opened, offered, sought, built, atPrefix, atRepl, go}
+use Rattle.repls.specs.Copies.{copiesAt, openedBy, firstly, lastly}
+use Rattle.repls.proofs.Laws.Copies.{as-decided}
 use Rattle.walks.specs.News.{news, laterNews}
 use Rattle.threads.specs.declared.task.Task.{Task}
 use Rattle.threads.specs.declared.task.Task.the-variants.{Count, Judge, Settle, Seek, SeekIn, Find, Build, BuildIn}
 use Rattle.threads.specs.declared.task.Quest.{Quest}
-use Rattle.threads.specs.declared.task.CopyAt.{CopyAt}
 use Rattle.threads.specs.declared.task.Plan.{Plan}
+use Rattle.repls.specs.declared.copies.Opening.{Opening}
+use Rattle.repls.specs.declared.copies.Opening.the-variants.{None, Copy, Again}
+use Rattle.repls.specs.declared.copies.Own.{Own}
+use Rattle.repls.specs.declared.copies.Own.the-variants.{Passed, Before, After, Found}
 
 -- What holds of a walk that goes on, whatever it has come to.
 pub record Ends (Q : Going → Type 0) (c : Course) : Type 0 where
@@ -57,7 +61,7 @@ abbrev pub Next : ℕ → Going → Type 0
 Next n h = h .names ≡ n
 
 -- Two parts of a walk, of which the second goes on from the name at which the first ends.
-then-next : {c : Course} {f : Going → Course} (then : ℕ → ℕ) {n : ℕ} → Ends (Next n) c
+pub then-next : {c : Course} {f : Going → Course} (then : ℕ → ℕ) {n : ℕ} → Ends (Next n) c
     → ((h : Going) → Ends (Next (then (h .names))) (f h)) → Ends (Next (then n)) (further c f)
 then-next {c} {f} then e k = ends-further c (λ h p. rw (← e .at-end h p) (k h))
 
@@ -112,43 +116,30 @@ module _ (copy : Task → Going → Course) where
   unfolding opened
   opened-next T n g = ends-further (copy Count (named n g)) (λ h p. returned-next (g .names) (copy (opening T (h .names)) (named n g)))
 
-  soughtIn-next : (q : Quest) (c : CopyAt) (k : ℕ) (g : Going) → Ends (Next (g .names)) (soughtIn q c k copy g)
-  unfolding soughtIn
-  soughtIn-next q c k g =
-      ends-either (eqb (c .mode) 0) (opened-next (Seek q k) k g) (ends-either (eqb (c .mode) 1)
-      (returned-next (g .names) (copy (Seek q (c .second)) (named k g))) (opened-next (Seek q k) (c .second) g))
+  pub opening-next : (o : Opening) (g : Going) → Ends (Next (g .names)) (openedBy o copy g)
+  opening-next None g = ends refl
+  opening-next (Copy T n) g = opened-next T n g
+  opening-next (Again T n) g = returned-next (g .names) (copy T (named n g))
 
-  copy-next : (b : Plan) (k at : ℕ) (P : Process) (g : Going) → Ends (Next (g .names)) (builtCopy b k at P copy g)
-  unfolding builtCopy
-  copy-next b k at P g =
-      let whole = opened-next (Build b k) k g in
-      ends-either (holds (b .sender) (at + 1) P) whole (ends-either (holds (b .taker) (at + 1) P)
-      (ends-either (eqb (b .sender) 0) whole (opened-next (Build (taking b) k) (b .second) g)) (ends refl))
+-- What is done with a repl thread itself, before and after.
+module _ (at : ℕ) (ρ : Bound) (P : Process) where
+  pub first-next : (own : Own) (g : Going) → Ends (Next (g .names)) (firstly own at ρ P g)
+  first-next Passed g = ends refl
+  first-next Before g = push-next at (repl ρ P) g
+  first-next After g = ends refl
+  first-next (Found k) g = ends refl
 
-  copies-next : (b : Plan) (c : CopyAt) (k : ℕ) (g : Going) → Ends (Next (g .names)) (builtCopies b c k copy g)
-  unfolding builtCopies
-  copies-next b c k g =
-      ends-either (eqb (c .mode) 2)
-      (then-next (λ n. n) (opened-next (Build (sending b) k) k g) (opened-next (Build (taking b) k) (c .second)))
-      (opened-next (Build b k) k g)
+  last-next : (own : Own) (g : Going) → Ends (Next (g .names)) (lastly own at ρ P g)
+  last-next Passed g = ends refl
+  last-next Before g = ends refl
+  last-next After g = push-next at (repl ρ P) g
+  last-next (Found k) g = ends-found at k []
 
-  repl-next : (T : Task) (at : ℕ) (ρ : Bound) (P : Process) (g : Going) → Ends (Next (g .names)) (atRepl T at ρ P copy g)
-  unfolding atRepl
-  repl-next Count at ρ P g = ends refl
-  repl-next (Judge k) at ρ P g = opened-next (Judge k) k g
-  repl-next Settle at ρ P g = then-next (λ n. n) (push-next at (repl ρ P) g) (λ h. opened-next (Judge (h .names)) (h .names) h)
-  repl-next (Seek q k) at ρ P g = ends-either (holds (q .but) (at + 1) P) (ends refl) (opened-next (Seek q k) k g)
-  repl-next (SeekIn q c k) at ρ P g =
-      ends-either (eqb (at + 1) (c .place)) (soughtIn-next q c k g)
-      (ends-either (holds (c .place) (at + 1) P) (opened-next (SeekIn q c k) k g) (ends refl))
-  repl-next (Find f past k) at ρ P g =
-      ends-either (eqb (at + 1) f) (ends-either past (ends refl) (ends-found at k []))
-      (ends-either (ltb (at + 1) f && not (holds f (at + 1) P)) (ends refl)
-      (ends-further (opened copy (Find f past k) k g) (λ h p. ends-found at k [])))
-  repl-next (Build b k) at ρ P g = then-next (λ n. n) (copy-next b k at P g) (push-next at (repl ρ P))
-  repl-next (BuildIn b c k) at ρ P g =
-      then-next (λ n. n) (ends-either (eqb (at + 1) (c .place)) (copies-next b c k g)
-      (ends-either (holds (c .place) (at + 1) P) (opened-next (BuildIn b c k) k g) (ends refl))) (push-next at (repl ρ P))
+  repl-next : (copy : Task → Going → Course) (T : Task) (g : Going) → Ends (Next (g .names)) (atRepl T at ρ P copy g)
+  repl-next copy T g =
+      let c = copiesAt T at (g .names) P in
+      rw (as-decided at ρ P copy g T) (then-next (λ n. n) (then-next (λ n. n) (then-next (λ n. n) (first-next (c .own) g)
+      (opening-next copy (c .first))) (opening-next copy (c .second))) (last-next (c .own)))
 
 go-next : (P : Process) (T : Task) (x : Message) (at : ℕ) (ρ : Bound) (g : Going) → Ends (Next (names P ρ (g .names))) (go P T x at ρ g)
 unfolding go names
@@ -160,7 +151,7 @@ go-next (Process.if M N P Q) T x at ρ g =
     (go-next P T x (thenAt at M N) ρ g) (go-next Q T x (elseAt at M N P) ρ g))
 go-next (Process.let-in M P) T x at ρ g = ends-unless (over ρ M) (go-next P T x (bodyAt at M) (ρ ▸ worked ρ M) g)
 go-next (Process.par P Q) T x at ρ g = then-next (names Q ρ) (go-next P T x (at + 1) ρ g) (go-next Q T x (rightAt at P) ρ)
-go-next (Process.repl P) T x at ρ g = repl-next (λ U. go P U x (at + 1) ρ) T at ρ P g
+go-next (Process.repl P) T x at ρ g = repl-next at ρ P (λ U. go P U x (at + 1) ρ) T g
 
 -- Every task leaves the names as settling does.
 pub go-names : (P : Process) (T : Task) (x : Message) (at : ℕ) (ρ : Bound) (g h : Going) → go P T x at ρ g ≡ going h

@@ -28,6 +28,9 @@ fewer : (P Q : Process) {ks : List ℕ} → laterNews Q ≤ laterNews P → Ever
     → Every (λ k. k + laterNews Q ≤ 32760) ks
 fewer P Q c f = every-map (λ k h. omega arith) f
 
+pub fits-later : (P : Process) {ks : List ℕ} → Every (λ k. k + news P ≤ 32760) ks → Every (λ k. k + laterNews P ≤ 32760) ks
+fits-later P f = fewer (repl P) P (later-fewer P) f
+
 -- A process of which no more names are left than of another.
 pub fits-part : (T : Task) (n l : ℕ) (P Q : Process) → news Q + l ≤ news P + n → laterNews Q ≤ laterNews P → NamesFit T n P → NamesFit T l Q
 fits-part T n l P Q h c f = record { own = omega (arith, f .own); others = fewer P Q c (f .others) }
@@ -40,7 +43,7 @@ fits-none T n P e h = record { own = h; others = rw e none }
 pub fits-opening : (T : Task) (j k n : ℕ) (P : Process) → j + laterNews P ≤ 32760 → k + news P ≤ 32760 → NamesFit T n (repl P)
     → NamesFit (opening T j) k P
 unfolding opening
-fits-opening T j k n P h l f = record { own = l; others = by-task T (fewer (repl P) P (later-fewer P) (f .others)) }
+fits-opening T j k n P h l f = record { own = l; others = by-task T (fits-later P (f .others)) }
   where
     by-task : (T : Task) → Every (λ k. k + laterNews P ≤ 32760) (numbersOf T) → Every (λ k. k + laterNews P ≤ 32760) (numbersOf (opening T j))
     by-task Count e = e

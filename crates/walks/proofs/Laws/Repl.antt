@@ -1,97 +1,182 @@
--- A repl thread, for each task ("Steps"; "Judging and its count"). Assumes nothing.
+-- A repl thread: its copies that are opened, and the thread itself ("Steps"; "Judging and its count"). Assumes nothing.
 use mathlib.Core.Path.{_≡_, subst}
-use mathlib.Core.Bool.{true, false}
-use mathlib.Core.List.{List, [], _∷_}
+use mathlib.Core.Bool.{Bool, true, false}
+use mathlib.Core.List.{List}
 use Prim.Native.Nat.{ℕ, _+_, _-_, _≤_}
 use native.Mathlib.Omega.{arith}
+use lib.Dec.{eqb}
 use Rattle.meaning.specs.Messages.Term.{Message}
 use Rattle.meaning.specs.Bytes.Process.{Process}
 use Rattle.meaning.specs.Places.{Every, none, _also_}
 use Rattle.meaning.specs.Steps.State.{Bound, repl}
+use Rattle.messages.specs.Buffer.{Within}
+use Rattle.messages.proofs.Laws.Buffer.{unchanged}
 use Rattle.walks.specs.News.{news}
-use Rattle.states.specs.Course.{Going, going, push}
-use Rattle.threads.specs.Machine.{opened, atRepl, go}
+use Rattle.states.specs.Course.{Going, going, further, named, returned}
+use Rattle.threads.specs.Machine.{holds, sending, taking, atRepl, go}
+use Rattle.repls.specs.Copies.{within, seeking, target, seekingIn, passes, finding, taken, builder, rebuilt, buildingIn}
+use Rattle.repls.specs.Copies.{copiesAt, openedBy, firstly, inCopies, Decided, Begins, Finishes}
 use Rattle.states.specs.Shown.{Shows, ShowsCourse}
-use Rattle.walks.specs.Walk.{Ready, WalksIf}
-use Rattle.walks.specs.Walk.{copyOf, onRepl, AtRepl, Opens}
-use Rattle.states.specs.Written.{Pushes}
+use Rattle.walks.specs.Walk.{numbersOf, NamesFit, MarksMeant, Meant, Ready, WalksIf, Returns}
+use Rattle.walks.specs.Walk.{CanOpen, Openable, AllOpenable, copyOf, Opens, OpensBy, OpensBoth, Performs}
+use Rattle.states.specs.Progress.{Renamed}
 use Rattle.threads.specs.declared.task.Task.{Task}
-use Rattle.threads.specs.declared.task.Task.the-variants.{Count, Judge, Settle}
+use Rattle.threads.specs.declared.task.Task.the-variants.{Count, Judge, Settle, Seek, SeekIn, Find, Build, BuildIn}
+use Rattle.threads.specs.declared.task.Plan.{Plan}
+use Rattle.repls.specs.declared.copies.Opening.{Opening}
+use Rattle.repls.specs.declared.copies.Opening.the-variants.{None, Copy, Again}
+use Rattle.repls.specs.declared.copies.Copies.{Copies}
 use Rattle.states.specs.declared.progress.Progress.{Progress}
-use Rattle.states.proofs.Laws.Process.{shaped}
-use Rattle.walks.proofs.Laws.Course.{push-next}
+use Rattle.states.proofs.Laws.Process.{shaped, of-repl}
+use Rattle.states.proofs.Laws.Progress.{renamed-shows}
 use Rattle.states.proofs.Laws.Written.{no-further, goes-further, stands-there}
+use Rattle.repls.proofs.Laws.Copies.{no-more, as-decided}
+use Rattle.threads.proofs.Laws.Offer.{bound-still}
+use Rattle.walks.proofs.Laws.Fits.{fits-later}
+use Rattle.walks.proofs.Laws.Course.{then-next, opening-next, first-next}
+use Rattle.walks.proofs.Laws.Copy.{copy-ready}
 
-module _ {s label m out : List ℕ} {at left end : ℕ} {T : Task} {now : Progress} where
-  pub repl-counted : T ≡ Count → WalksIf 7 s label at left m end T out now now out
-  unfolding go atRepl
-  repl-counted z = record {
-    exact = λ e. record { exact = λ P x ρ g y v. let (Q, f) = shaped 7 P (y .process) e in rw (f, z) v };
-  }
+-- The copies that a task opens can be opened where the task can be done.
+taking-meant : (s : List ℕ) (b : Plan) → MarksMeant s b → MarksMeant s (taking b)
+taking-meant s b f = ((λ t e. absurd (omega arith)), f .1)
 
-  pub repl-done : {after : List ℕ} {U : Task} {r : Progress} → AtRepl (onRepl U at) U s label at left m end out now r after → T ≡ U
-      → WalksIf 7 s label at left m end T out now r after
-  unfolding go
-  repl-done w z = record {
-    exact = λ e. record {
-      exact = λ P x ρ g y v. let (Q, f) = shaped 7 P (y .process) e in rw (f, z) (w .exact Q x ρ g (rw (f, z) at y) v);
-    };
-  }
+sending-meant : (s : List ℕ) (b : Plan) → MarksMeant s b → MarksMeant s (sending b)
+sending-meant s b f = (f .0, λ t e. absurd (omega arith))
 
-  pub repl-judged : {after : List ℕ} {k : ℕ} {r : Progress} → Opens (Judge k) k s label at left m end out now r after → T ≡ Judge k
-      → WalksIf 7 s label at left m end T out now r after
-  unfolding go atRepl
-  repl-judged {after} {k} {r} w z = record {
-    exact = λ e. record {
-      exact = λ P x ρ g y v. let (Q, f) = shaped 7 P (y .process) e in rw (f, z) (one Q x ρ g (rw (f, z) at y) v);
-    };
-  }
-    where
-      one : (P : Process) (x : Message) (ρ : Bound) (g : Going) → Ready s label at left m end (Judge k) (Process.repl P) x ρ g
-          → Shows s out now g → ShowsCourse s after r (opened (copyOf at P x ρ) (Judge k) k g)
-      one P x ρ g y v = w .exact P x ρ g y (head (y .fits .others)) v
-        where
-          head : Every (λ (j : ℕ). j + news P ≤ 32760) (k ∷ []) → k + news P ≤ 32760
-          head (h also none) = h
+either : {A : Type 0} (Q : A → Type 0) (b : Bool) {c d : A} → Q c → Q d → Q (elim b [ true ↦ c | false ↦ d ])
+either Q true p q = p
+either Q false p q = q
 
-pub ruleset repls = (repl-counted, repl-done, repl-judged)
+module _ (s : List ℕ) (P : Process) where
+  abbrev Small : List ℕ → Type 0
+  Small ks = Every (λ k. k + news P ≤ 32760) ks
 
--- It is written, and then judged.
-module _ {s label m out out₁ : List ℕ} {at left end : ℕ} {now pushed : Progress} (w : Pushes m end at out now pushed out₁) where
-  written-as : (P : Process) (x : Message) (ρ : Bound) (g : Going) → Ready s label at left m end Settle (Process.repl P) x ρ g
-      → Shows s out now g → ShowsCourse s out₁ pushed (push at (repl ρ P) g)
-  written-as P x ρ g y v =
-      w .exact s (repl ρ P) g (y .bound) (stands-there (repl ρ P) (y .short) (y .shallow) (y .process) (y .bound .normal)) v
+  can : (T : Task) (n : ℕ) → n + news P ≤ 32760 → Small (numbersOf T) → Meant s T → CanOpen s P T n
+  can T n l e u = record { own = l; others = e; meant = u }
 
-  pub repl-full : pushed .going ≡ false → AtRepl (onRepl Settle at) Settle s label at left m end out now pushed out₁
-  unfolding atRepl
-  repl-full off = record {
-    exact = λ P x ρ g y v. no-further s out₁ pushed (push at (repl ρ P) g) _ (written-as P x ρ g y v) off;
-  }
+  openable : (T : Task) (at n : ℕ) → n + news P ≤ 32760 → Small (numbersOf T) → Meant s T → AllOpenable s P (copiesAt T at n P)
+  unfolding within seeking target seekingIn finding taken builder rebuilt buildingIn
+  openable Count at n l e u = (tt, tt)
+  openable (Judge k) at n l (h also e) u = (can (Judge k) k h (h also e) u, tt)
+  openable Settle at n l e u = (can (Judge n) n l (l also none) tt, tt)
+  openable (Seek q k) at n l (h also e) u =
+      (either (Openable s P) (holds (q .but) (at + 1) P) tt (can (Seek q k) k h (h also e) u), tt)
+  openable (SeekIn q c k) at n l (h also (i also e)) u =
+      let first = can (Seek q k) k h (h also none) tt in
+      let same = can (Seek q (c .second)) k h (i also none) tt in
+      let second = can (Seek q k) (c .second) i (h also none) tt in
+      let way = can (SeekIn q c k) k h (h also (i also e)) u in (
+        either (Openable s P) (eqb (at + 1) (c .place))
+            (either (Openable s P) (eqb (c .mode) 0) first (either (Openable s P) (eqb (c .mode) 1) same second))
+            (either (Openable s P) (holds (c .place) (at + 1) P) way tt),
+        tt,
+      )
+  openable (Find f past k) at n l (h also e) u =
+      either (AllOpenable s P) (passes f past at P) (tt, tt)
+      (either (Openable s P) (eqb (at + 1) f) tt (can (Find f past k) k h (h also e) u), tt)
+  openable (Build b k) at n l (h also (i also e)) u =
+      let whole = can (Build b k) k h (h also (i also e)) u in
+      let other = can (Build (taking b) k) (b .second) i (h also (i also e)) (taking-meant s b u) in (
+        either (Openable s P) (holds (b .sender) (at + 1) P) whole
+            (either (Openable s P) (holds (b .taker) (at + 1) P) (either (Openable s P) (eqb (b .sender) 0) whole other) tt),
+        tt,
+      )
+  openable (BuildIn b c k) at n l (h also (i also e)) u =
+      let sent = can (Build (sending b) k) k h (h also e) (sending-meant s b u) in
+      let took = can (Build (taking b) k) (c .second) i (h also e) (taking-meant s b u) in
+      let whole = can (Build b k) k h (h also e) u in
+      let way = can (BuildIn b c k) k h (h also (i also e)) u in
+      either (AllOpenable s P) (eqb (at + 1) (c .place)) (either (AllOpenable s P) (eqb (c .mode) 2) (sent, took) (whole, tt))
+      (either (Openable s P) (holds (c .place) (at + 1) P) way tt, tt)
 
-  pub repl-written : {after : List ℕ} {r : Progress} → pushed .going ≡ true
-      → Opens (Judge (pushed .names)) (pushed .names) s label at left m end out₁ pushed r after
-      → AtRepl (onRepl Settle at) Settle s label at left m end out now r after
-  unfolding atRepl
-  repl-written {after} {r} on o = record {
-    exact = λ P x ρ g y v.
-        goes-further s after r (push at (repl ρ P) g) _ (written-as P x ρ g y v) on (λ h e u.
-        let same : pushed .names ≡ h .names = u .names in
-        let kept : h .names ≡ g .names = push-next at (repl ρ P) g .at-end h e in
-        let fits : pushed .names + news P ≤ 32760 = omega (arith, y .fits .own) in
-        subst (λ (n : ℕ). ShowsCourse s after r (opened (copyOf at P x ρ) (Judge n) n h)) same (o .exact P x ρ h (record {
-          next = y .next;
-          process = y .process;
-          shallow = y .shallow;
-          short = y .short;
-          labelled = y .labelled;
-          small = y .small;
-          normal = y .normal;
-          bound = y .bound;
-          room = y .room;
-          fits = record { own = omega (arith, y .fits .own); others = fits also none };
-          meant = tt;
-        }) fits u));
-  }
+-- The same place for another task, after a call and with threads that were written since.
+ready-for : {s label m m₁ : List ℕ} {at left end high : ℕ} {T : Task} {x : Message} {ρ : Bound} {g : Going} (P : Process) (U : Task) (h : Going)
+    → Ready s label at left m end T P x ρ g → Within end high m m₁ → NamesFit U (h .names) P → Meant s U
+    → Ready s label at left m₁ end U P x ρ h
+ready-for P U h y k f u = record {
+  next = y .next;
+  process = y .process;
+  shallow = y .shallow;
+  short = y .short;
+  labelled = y .labelled;
+  small = y .small;
+  normal = y .normal;
+  bound = bound-still (y .bound) k;
+  room = omega (arith, y .room, k .long);
+  fits = f;
+  meant = u;
+}
 
-pub ruleset settled = (repl-full, repl-written)
+-- A copy, if there is one and the walk still goes on.
+module _ {o : Opening} {s label m out : List ℕ} {at left end : ℕ} {now : Progress} where
+  pub open-off : now .going ≡ false → OpensBy o s label at left m end out now now out
+  open-off off = record { exact = λ P x ρ g y u d same v. no-further s out now d _ v off }
+
+  pub open-none : o ≡ None → OpensBy o s label at left m end out now now out
+  open-none e = record { exact = λ P x ρ g y u d same v. rw (e, no-more d) v }
+
+  module _ {after : List ℕ} {T : Task} {n : ℕ} {r : Progress} (on : now .going ≡ true) where
+    pub open-copy : o ≡ Copy T n → Opens T n s label at left m end out now r after → OpensBy o s label at left m end out now r after
+    open-copy e w = record {
+      exact = λ P x ρ g y u d same v.
+          let ok : CanOpen s P T n = rw e at u in
+          rw e (goes-further s after r d _ v on (λ h i z.
+          let names : h .names ≡ g .names = same h i in
+          w .exact P x ρ h (ready-for (Process.repl P) T h y (unchanged {low = end} {high = end})
+          (record { own = rw names (y .fits .own); others = ok .others }) (ok .meant)) (ok .own) z));
+    }
+
+    pub open-again : {d : Progress} → o ≡ Again T n → Returns (now .names) s label (at + 1) (left - 1) m end T out d r after
+        → Renamed now n d → OpensBy o s label at left m end out now r after
+    open-again e w k = record {
+      exact = λ P x ρ g y u d same v.
+          let ok : CanOpen s P T n = rw e at u in
+          rw e (goes-further s after r d _ v on (λ h i z.
+          let before : now .names ≡ h .names = z .names in
+          subst (λ (b : ℕ). ShowsCourse s after r (returned b (go P T x (at + 1) ρ (named n h)))) before
+          (w .exact P x ρ (named n h) (copy-ready P T (named n h) y (unchanged {low = end} {high = end})
+          (record { own = ok .own; others = fits-later P (ok .others) }) (ok .meant)) (renamed-shows n z k))));
+    }
+
+pub ruleset opens = (open-off, open-none, open-copy, open-again)
+
+-- The first copy, and then the second.
+pub pairs : {c : Copies} {s label m m₁ out out₁ after : List ℕ} {at left end high : ℕ} {now mid r : Progress}
+    → OpensBy (c .first) s label at left m end out now mid out₁ → OpensBy (c .second) s label at left m₁ end out₁ mid r after
+    → Within end high m m₁ → OpensBoth c s label at left m end out now r after
+pairs {c} {at = at} v w k = record {
+  exact = λ P x ρ g {T} y u d same z.
+      let copy = copyOf at P x ρ in
+      w .exact P x ρ g (ready-for (Process.repl P) T g y k (y .fits) (y .meant)) (u .1) (further d (openedBy (c .first) copy))
+      (then-next (λ n. n) (record { at-end = same }) (opening-next copy (c .first)) .at-end)
+      (v .exact P x ρ g y (u .0) d same z);
+}
+
+-- And then the thread itself.
+pub performances : {c : Copies} {s label m m₁ out out₁ after : List ℕ} {at left end high : ℕ} {now mid r : Progress}
+    → OpensBoth c s label at left m end out now mid out₁ → Finishes (c .own) m₁ end at out₁ mid r after → Within end high m m₁
+    → Performs c s label at left m end out now r after
+performances {c} {s} {at = at} w f k = record {
+  exact = λ P x ρ g y u d same v.
+      f .exact s ρ P (inCopies c (copyOf at P x ρ) d) (bound-still (y .bound) k)
+      (stands-there (repl ρ P) (y .short) (y .shallow) (y .process) (y .bound .normal)) (w .exact P x ρ g y u d same v);
+}
+
+-- All of it, as it was decided.
+pub repls : {c : Copies} {s label m out out₁ after : List ℕ} {at left end : ℕ} {T : Task} {now begun r : Progress}
+    → Decided Copies s at (copiesAt T at (now .names)) c → Begins (c .own) m end at out now begun out₁
+    → Performs c s label at left m end out₁ begun r after → WalksIf 7 s label at left m end T out now r after
+unfolding go
+repls {c} {s} {label} {m} {out} {after = after} {at} {left} {end} {T} {now} {r = r} d b w = record {
+  exact = λ e. record { exact = λ P x ρ g y v. let (Q, f) = shaped 7 P (y .process) e in rw f (only Q x ρ g (rw f at y) v) };
+}
+  where
+    only : (P : Process) (x : Message) (ρ : Bound) (g : Going) → Ready s label at left m end T (Process.repl P) x ρ g → Shows s out now g
+        → ShowsCourse s after r (atRepl T at ρ P (copyOf at P x ρ) g)
+    only P x ρ g y v =
+        let names : now .names ≡ g .names = v .names in
+        let is : c ≡ copiesAt T at (g .names) P = rw names at (d .exact P (of-repl P (y .process) .stands)) in
+        rw (as-decided at ρ P (copyOf at P x ρ) g T, ← is)
+        (w .exact P x ρ g y (rw is (openable s P T at (g .names) (y .fits .own) (y .fits .others) (y .meant)))
+        (firstly (c .own) at ρ P g) (first-next at ρ P (c .own) g .at-end)
+        (b .exact s ρ P g (y .bound) (stands-there (repl ρ P) (y .short) (y .shallow) (y .process) (y .bound .normal)) v))

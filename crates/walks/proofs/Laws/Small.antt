@@ -7,11 +7,11 @@ use mathlib.Core.Bool.{Bool, true, false, _||_}
 use lib.ListN.{length}
 use borrow.Author.Tests.{ltb-false}
 use Rattle.meaning.specs.Messages.Term.{leaf, proj, binary, Term, nodes}
-use Rattle.meaning.specs.Messages.Normal.{size, normal, equal}
-use Rattle.meaning.specs.Bytes.Process.{Prefix, output, input, Process}
+use Rattle.meaning.specs.Messages.Normal.{size, equal}
+use Rattle.meaning.specs.Bytes.Process.{Process}
 use Rattle.meaning.specs.Places.{Every, none, _also_}
 use Rattle.meaning.specs.Steps.State.{Bound, written, worked, Thread, settle}
-use Rattle.meaning.specs.Judging.Limits.{over, overSettling, overPrefix, boundNodes}
+use Rattle.meaning.specs.Judging.Limits.{over, overSettling, boundNodes}
 use Rattle.meaning.proofs.Every.{every-joined}
 use Rattle.meaning.proofs.Test.{neither}
 use Rattle.terms.specs.Bound.{encodeBound}

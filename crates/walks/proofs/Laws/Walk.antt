@@ -15,7 +15,7 @@ use Rattle.meaning.specs.Steps.State.{Bound, _▸_, written, worked}
 use Rattle.meaning.specs.Judging.Limits.{over}
 use Rattle.meaning.proofs.Messages.{normalForms}
 use Rattle.messages.specs.Buffer.{Within}
-use Rattle.reading.specs.Ends.{ProcessEnd}
+use Rattle.layouts.specs.Ends.{ProcessEnd}
 use Rattle.terms.specs.Bound.{Binds}
 use Rattle.terms.specs.Work.{BindWorked, Reaches}
 use Rattle.terms.specs.Decide.{Compares, comparedOf}

@@ -4,7 +4,7 @@ use Prim.Native.Nat.{_+_, _-_, _*_, _≤_}
 use native.Mathlib.Omega.{arith}
 use borrow.Author.Needs.{needs}
 use lib.ListN.{length}
-use Rattle.reading.proofs.Laws.Standing.{Walked}
+use Rattle.layouts.proofs.Laws.Standing.{Walked}
 use Rattle.messages.specs.Encoding.{encodeMessage}
 use Rattle.messages.proofs.Laws.Walk.{sizes, two-at-most}
 use Rattle.messages.proofs.run.size.Statement.{statement}

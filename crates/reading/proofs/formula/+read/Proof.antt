@@ -12,7 +12,7 @@ use Rattle.reading.proofs.Laws.Sorts.{formula-layout}
 use Rattle.reading.proofs.formula.read.Reads as read
 use Rattle.reading.proofs.formula.read.Kinds as read-kinds
 use Rattle.reading.proofs.formula.+read.Lts-read as read-lts
-use Rattle.reading.proofs.layout.formula.Reads as layout-reads
+use Rattle.layouts.proofs.layout.formula.Reads as layout-reads
 use Rattle.reading.proofs.formula.head.Reads as head-reads
 use Rattle.reading.proofs.formula.+read.{statement}
 use Rattle.reading.proofs.formula.+read.Tie.{close}

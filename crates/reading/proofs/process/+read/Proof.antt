@@ -12,7 +12,7 @@ use Rattle.reading.proofs.Laws.Sorts.{process-layout}
 use Rattle.reading.proofs.process.read.Reads as read
 use Rattle.reading.proofs.process.read.Kinds as read-kinds
 use Rattle.reading.proofs.process.+read.Lts-read as read-lts
-use Rattle.reading.proofs.layout.process.Reads as layout-reads
+use Rattle.layouts.proofs.layout.process.Reads as layout-reads
 use Rattle.reading.proofs.process.head.Reads as head-reads
 use Rattle.reading.proofs.process.+read.{statement}
 use Rattle.reading.proofs.process.+read.Tie.{close}

@@ -10,7 +10,7 @@ use Rattle.reading.proofs.Laws.Sorts.{term-layout}
 use Rattle.reading.proofs.term.read.Reads as read
 use Rattle.reading.proofs.term.read.Kinds as read-kinds
 use Rattle.reading.proofs.term.+read.Lts-read as read-lts
-use Rattle.reading.proofs.layout.term.Reads as layout-reads
+use Rattle.layouts.proofs.layout.term.Reads as layout-reads
 use Rattle.reading.proofs.term.head.Reads as head-reads
 use Rattle.reading.proofs.term.+read.{statement}
 use Rattle.reading.proofs.term.+read.Tie.{close}

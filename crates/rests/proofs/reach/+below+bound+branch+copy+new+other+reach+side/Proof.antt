@@ -35,8 +35,8 @@ use Rattle.rests.proofs.reach.side.Reads as side
 use Rattle.rests.proofs.reach.side.Kinds as side-kinds
 use Rattle.rests.proofs.reach.+below+bound+branch+copy+new+other+reach+side.Lts-side as side-lts
 use Rattle.messages.proofs.node.wide.Reads as wide-reads
-use Rattle.reading.proofs.ends.process.Reads as process-reads
-use Rattle.reading.proofs.ends.terms.Reads as terms-reads
+use Rattle.layouts.proofs.ends.process.Reads as process-reads
+use Rattle.layouts.proofs.ends.terms.Reads as terms-reads
 use Rattle.threads.proofs.place.holds.Reads as holds-reads
 use Rattle.rests.proofs.reach.nowhere.Reads as nowhere-reads
 use Rattle.rests.proofs.count.taken.Reads as taken-reads

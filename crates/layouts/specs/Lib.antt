@@ -1,0 +1,5 @@
+pub mod Answer
+pub mod Bounded
+pub mod Layout
+pub mod Ends
+pub mod Theorems

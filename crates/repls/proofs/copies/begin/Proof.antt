@@ -1,0 +1,20 @@
+-- `threads::copies::begin` meets its contract: the thread before its copies. Assumes nothing.
+use borrow.Author.Needs.{needs}
+use Rattle.messages.proofs.Laws.Buffer.{unchanged}
+use Rattle.states.proofs.Laws.Progress.{extensions}
+use Rattle.repls.proofs.Laws.Decided.{beginnings}
+use Rattle.repls.proofs.copies.begin.Statement.{statement}
+use Rattle.repls.proofs.copies.begin.Tie as tie
+
+pub begin-spec : {M : Type 1} → statement M
+begin-spec = tie.close (tie.spec
+    (λ c. search needs)
+    (λ c. search needs)
+    (λ c κs. search needs)
+    (λ c. search needs)
+    (λ c. search needs)
+    (λ c. (search (needs, extensions), (search (needs, unchanged), search (needs, beginnings))))
+    (λ c. search needs)
+    (λ c. (search (needs, extensions), (search needs, search (needs, beginnings))))
+    (λ c. (search (needs, extensions), (search (needs, unchanged), search (needs, beginnings))))
+    (λ c. (search (needs, extensions), (search (needs, unchanged), search (needs, beginnings)))))

@@ -1,0 +1,12 @@
+-- `threads::copies::rebuilt` meets its contract: what is left of the copies of the thread that is meant. Assumes nothing.
+use borrow.Author.Needs.{needs}
+use Rattle.repls.proofs.Laws.Decided.{rebuildings}
+use Rattle.repls.proofs.copies.rebuilt.Statement.{statement}
+use Rattle.repls.proofs.copies.rebuilt.Tie as tie
+
+pub rebuilt-spec : {M : Type 1} → statement M
+rebuilt-spec = tie.close (tie.spec
+    (λ c κs. search needs)
+    (λ c κs. search needs)
+    (λ c. search (needs, rebuildings))
+    (λ c. search (needs, rebuildings)))
