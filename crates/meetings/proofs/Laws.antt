@@ -1,8 +1,9 @@
 -- The laws by which the functions meet their contracts. Assumes nothing.
+pub mod Shown
 pub mod Find
-pub mod Groups
+pub mod ReplThreads
 pub mod Joint
 pub mod Look
 pub mod Senders
-pub mod Taken
+pub mod Takers
 pub mod Meet

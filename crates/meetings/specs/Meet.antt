@@ -13,11 +13,15 @@ use Rattle.states.specs.declared.progress.Progress.{Progress}
 use Rattle.positions.specs.Located.{Acting}
 use Rattle.positions.specs.Sought.{wanted, sentBy, Opened}
 use Rattle.moves.specs.Spot.{Spot, recordAt, copiesOf, filter}
-use Rattle.walks.specs.Visit.{Labelled}
+use Rattle.forms.specs.Visit.{Labelled}
 use Rattle.moves.specs.Step.{Shown}
 use Rattle.moves.specs.declared.step.Next.{Next}
 use Rattle.moves.specs.declared.step.Next.the-variants.{None}
 use Rattle.moves.specs.CopyOffers.{ThreadAt, copyOffers, Later, pairsOf, pairsFrom, senders, moved}
+
+-- The copies of the repl thread at a mark, by number and by the name at which a second one opens.
+abbrev pub copyAt : (place mode second : ℕ) → CopyAt
+copyAt place mode second = record { place = place; mode = mode; second = second }
 
 -- A walk that seeks an offer has found the first of these, or goes on where there is none.
 abbrev pub ShowsFirst : (out : List ℕ) → Progress → List Acting → Type 0

@@ -1,10 +1,10 @@
 // Silent steps of single threads, in their copies: repl thread by repl thread, one copy and then two ("Steps").
 use crate::meet;
+use forms::visit;
 use messages::node;
 use moves::step::Next;
 use states::progress::Progress;
 use threads::task::Task;
-use walks::visit;
 ghost use mathlib.Core.Path.{_≡_};
 ghost use Prim.Native.Nat.{_+_, _≤_};
 ghost use lib.ListN.{length};

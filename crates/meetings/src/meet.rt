@@ -1,4 +1,5 @@
 // Silent steps in the copies of one thread: the next pair of a sender and a taker ("Steps").
+use forms::visit;
 use moves::step::Actor;
 use moves::step::Label;
 use moves::step::Next;
@@ -8,13 +9,12 @@ use states::progress::Progress;
 use threads::task::CopyAt;
 use threads::task::Quest;
 use threads::task::Task;
-use walks::visit;
 ghost use mathlib.Core.Path.{_≡_};
 ghost use Prim.Native.Nat.{_+_, _≤_, _<_};
 ghost use lib.ListN.{length};
 ghost use Rattle.messages.specs.Buffer.{Within};
-ghost use Rattle.meetings.specs.Meet.{Looks, Sends, PairsIn, Pairs, Onward, Meets};
-ghost use Rattle.moves.specs.CopyOffers.{leftOut};
+ghost use Rattle.meetings.specs.Meet.{copyAt, Looks, Sends, PairsIn, Pairs, Onward, Meets};
+ghost use Rattle.moves.specs.CopyOffers.{inputs, leftOut};
 
 // An offer in the copies of a repl thread of the thread whose record stands at a position.
 fn look(
@@ -93,6 +93,47 @@ fn left_out(mode: usize, mark: usize) -> usize
     0
 }
 
+// A taker on the channel of a label, from a position on, for the sender that was found.
+fn taker(
+    s: &[u8],
+    label: &[u8],
+    at: usize,
+    names: usize,
+    to: usize,
+    m: &mut [u8],
+    copy: usize,
+    mode: usize,
+    sender: Progress,
+    from: usize,
+    out: &mut [u8],
+) -> Progress
+    requires { ⌜ (at + 4 ≤ length (now out)) × (length (now s) ≤ 4096) ⌝ }
+    ensures { λ _. ⌜ Within 0 (length (now (m .entry))) (now (m .entry)) (now (m .exit)) ⌝ }
+    ensures { λ _. ⌜ Within to (length (now (out .entry))) (now (out .entry)) (now (out .exit)) ⌝ }
+    ensures { λ r. ⌜ Looks (now (s .entry)) (now (label .entry)) at names to (now (m .entry)) (inputs from (leftOut mode (sender .mark))) (copyAt copy mode (sender .names)) (now (out .entry)) r (now (out .exit)) ⌝ }
+{
+    look(
+        s,
+        label,
+        at,
+        names,
+        to,
+        m,
+        Quest {
+            output: false,
+            any: false,
+            from: from,
+            but: left_out(mode, sender.mark),
+        },
+        CopyAt {
+            place: copy,
+            mode: mode,
+            second: sender.names,
+        },
+        out,
+    )
+}
+
 // The first taker, from a position on, of what the sender that was found sends. Its channel is copied to a slice.
 fn taken(
     s: &[u8],
@@ -116,24 +157,17 @@ fn taken(
 {
     let handed = hand::hand(out, sender.sent, channel, message);
     let long = handed.channel;
-    let taker = look(
+    let taker = taker(
         s,
         &channel[0..long],
         at,
         names,
         to,
         m,
-        Quest {
-            output: false,
-            any: false,
-            from: from,
-            but: left_out(mode, sender.mark),
-        },
-        CopyAt {
-            place: copy,
-            mode: mode,
-            second: sender.names,
-        },
+        copy,
+        mode,
+        sender,
+        from,
         out,
     );
     let going = taker.going;

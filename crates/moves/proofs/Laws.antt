@@ -10,11 +10,11 @@ pub mod MovesSpots
 pub mod MovesThread
 pub mod Moves
 pub mod CopyMoves
-pub mod CopyMovesLists
+pub mod SplitLists
 pub mod CopyMovesOrder
 pub mod CopyMovesResumed
 pub mod CopyMovesSilent
-pub mod Front
+pub mod Records
 pub mod LimitsJoints
 pub mod LimitsSpots
 pub mod Limits

@@ -15,7 +15,7 @@ use Rattle.positions.specs.Joint.{Pair, Joint}
 use Rattle.positions.specs.Sought.{wanted, offersBut, Opened}
 use Rattle.moves.specs.Spot.{Spot, filter}
 use Rattle.moves.specs.Threads.{Judged}
-use Rattle.walks.specs.Visit.{RecordAt}
+use Rattle.forms.specs.Visit.{RecordAt}
 use Rattle.moves.specs.Moves.{Move, inside}
 
 -- A thread whose record stands at a position, none of whose offers meets a limit, and room for a walk over it that writes from the position

@@ -11,10 +11,10 @@ use Rattle.meaning.specs.Places.{Every}
 use Rattle.meaning.specs.Steps.State.{State, start}
 use Rattle.meaning.specs.Steps.Invariant.{Stored, BoundStored}
 use Rattle.meaning.specs.Judging.Visits.{startArrival}
-use Rattle.walks.specs.Form.{StateAt, overArrival}
+use Rattle.forms.specs.Form.{StateAt, overArrival}
 use Rattle.states.specs.declared.state.State as code
 use Rattle.moves.specs.Outcome.{outcome, arrivalOf}
-use Rattle.walks.specs.Visit.{BoundSmall}
+use Rattle.forms.specs.Visit.{BoundSmall}
 use Rattle.moves.specs.Threads.{Judged}
 use Rattle.moves.specs.Limits.{EveryMove}
 

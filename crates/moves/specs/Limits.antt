@@ -13,12 +13,12 @@ use Rattle.meaning.specs.Steps.Invariant.{Stored, BoundStored}
 use Rattle.meaning.specs.Judging.Limits.{boundNodes, threadNodes}
 use Rattle.states.specs.Record.{Placed}
 use Rattle.walks.specs.Settled.{threadsOf}
-use Rattle.walks.specs.Form.{overArrival}
+use Rattle.forms.specs.Form.{overArrival}
 use Rattle.positions.specs.Joint.{Pair}
 use Rattle.positions.specs.Rebuilt.{overRest}
 use Rattle.moves.specs.Moves.{Move, alone, inside, between, labelledMoves, silentMoves}
 use Rattle.moves.specs.Outcome.{Outcome, boundAfter, sentBy, lastOf, outcome, arrivalOf}
-use Rattle.walks.specs.Visit.{BoundSmall}
+use Rattle.forms.specs.Visit.{BoundSmall}
 use Rattle.moves.specs.Threads.{Judged}
 
 -- Whether the rests of a pair, or those of a step, meet a limit of their own; x is the message of an input.

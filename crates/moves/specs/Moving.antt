@@ -10,7 +10,7 @@ use Rattle.meaning.specs.Steps.Invariant.{Stored}
 use Rattle.states.specs.declared.state.State as code
 use Rattle.moves.specs.Moves.{Move, alone, inside, between}
 use Rattle.moves.specs.Outcome.{sentBy}
-use Rattle.walks.specs.Visit.{Labelled}
+use Rattle.forms.specs.Visit.{Labelled}
 use Rattle.moves.specs.Held.{Held}
 use Rattle.moves.specs.Step.{stepOf}
 use Rattle.moves.specs.Behind.{movesOf}

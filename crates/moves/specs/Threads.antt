@@ -7,7 +7,7 @@ use Rattle.meaning.specs.Bytes.Standing.{Stands}
 use Rattle.meaning.specs.Places.{Every}
 use Rattle.meaning.specs.Steps.Invariant.{ThreadStored}
 use Rattle.meaning.specs.Judging.Limits.{boundNodes, overOffers}
-use Rattle.walks.specs.Visit.{BoundSmall}
+use Rattle.forms.specs.Visit.{BoundSmall}
 use Rattle.states.specs.Record.{Placed, boundOf, encodeRecords, Standing}
 
 -- Whatever a thread offers meets no limit, copies being opened at k, its private names are below k, and its messages are small.

@@ -6,7 +6,6 @@ use Prim.Native.Nat.{ℕ, _+_, _≤_}
 use lib.ListN.{length}
 use Rattle.meaning.specs.Messages.Term.{Message}
 use Rattle.meaning.specs.Bytes.Standing.{Stands}
-use Rattle.meaning.specs.Places.{Every}
 use Rattle.messages.specs.Encoding.{encodeMessage}
 use Rattle.states.specs.Record.{Placed}
 use Rattle.states.specs.Shown.{encodeMessages}
@@ -15,15 +14,14 @@ use Rattle.states.specs.declared.progress.Progress.{Progress}
 use Rattle.states.specs.declared.state.State.{State}
 use Rattle.positions.specs.Located.{Acting}
 use Rattle.moves.specs.Spot.{Spot, recordAt}
-use Rattle.moves.specs.Moves.{Move, alone, inside, between, labelledMoves}
-use Rattle.moves.specs.Outcome.{aliasOf, sentBy}
+use Rattle.moves.specs.Moves.{Move, alone, labelledMoves}
 use Rattle.moves.specs.Threads.{Threads}
-use Rattle.walks.specs.Visit.{Labelled}
-use Rattle.moves.specs.Step.{stepOf}
+use Rattle.forms.specs.Visit.{Labelled}
+use Rattle.moves.specs.Step.{Shown}
 use Rattle.moves.specs.declared.step.Step.{Step}
 use Rattle.moves.specs.declared.step.Label.the-variants.{Output, Input}
 use Rattle.moves.specs.declared.step.Next.{Next}
-use Rattle.moves.specs.declared.step.Next.the-variants.{Found, None}
+use Rattle.moves.specs.declared.step.Next.the-variants.{Found}
 
 -- Outputs, or inputs, on the channel of a label, at the position from or after it.
 abbrev pub labelledFrom : Bool → (from : ℕ) → Quest
@@ -35,26 +33,12 @@ pub data Upcoming (start at mark : ℕ) (ws : List Move) : List Move → Type 0 
   behind : (before : List Move) (p : Spot) (a : Acting) {later : List Move} → ws ≡ before ++ (alone p a ∷ later) → at ≡ recordAt start p
       → mark ≡ a .place + 1 → Upcoming start at mark ws later
 
--- The message that is sent, if one is; its run stands at the front of the slice.
-abbrev pub messagesOf : Move → List Message
-messagesOf (alone p a) = aliasOf a
-messagesOf (inside p w) = sentBy (w .pair) ∷ []
-messagesOf (between p q w) = sentBy w ∷ []
-
-abbrev pub Told : List ℕ → Move → Type 0
-Told message w = Every (λ x. Stands message 0 (encodeMessage x) (length (encodeMessage x))) (messagesOf w)
-
--- The answer is the step of the first of the moves, or none.
-abbrev pub ShowsNext : (start : ℕ) → List ℕ → Next → List Move → Type 0
-ShowsNext start message r [] = r ≡ None
-ShowsNext start message r (w ∷ ws) = (r ≡ Found (stepOf start w)) × Told message w
-
 -- Whatever threads a state has, the answer is the first of their outputs, or inputs, that come behind a cursor.
 pub record Follows (output : Bool) (s channel : List ℕ) (st : State) (at from : ℕ) (m out message : List ℕ) (r : Next) (after : List ℕ) : Type 0
   where
     pub exact : (ps : List Placed) (x : Message) (ws : List Move) → Threads s out (st .start) (st .names) ps (st .end) → Labelled channel x
         → length s ≤ 4096 → 10750 ≤ length m → st .end + 3964 ≤ length out → 510 ≤ length message → st .names ≤ 28664
-        → Upcoming (st .start) at from (labelledMoves output x (st .names) ps) ws → ShowsNext (st .start) after r ws
+        → Upcoming (st .start) at from (labelledMoves output x (st .names) ps) ws → Shown (st .start) after r ws
 
 -- The same for a step, which is the cursor: of an output its sender, of an input its taker. For a silent step nothing is said.
 pub record NextLabelled (s channel : List ℕ) (st : State) (step : Step) (m out message : List ℕ) (r : Next) (after : List ℕ) : Type 0 where

@@ -16,7 +16,7 @@ use Rattle.positions.specs.Located.{Acting}
 use Rattle.positions.specs.Sought.{wanted, sentBy, first}
 use Rattle.moves.specs.Spot.{offersOf}
 use Rattle.moves.specs.Threads.{Judged, Threads}
-use Rattle.walks.specs.Visit.{nothingYet, Labelled, RecordAt}
+use Rattle.forms.specs.Visit.{nothingYet, Labelled, RecordAt}
 use Rattle.offers.specs.declared.seek.Sighting.{Sighting}
 
 -- No offer; or one of the thread whose record stands at a position.

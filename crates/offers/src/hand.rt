@@ -34,7 +34,7 @@ pub fn hand(out: &[u8], from: usize, channel: &mut [u8], message: &mut [u8]) -> 
 }
 
 // Copies the message that stands at a position to the front of a slice, and answers how many bytes it takes.
-fn one(out: &[u8], from: usize, to: &mut [u8]) -> usize
+pub(crate) fn one(out: &[u8], from: usize, to: &mut [u8]) -> usize
     ensures { λ r. ⌜ r ≤ length (now (to .entry)) ⌝ }
     ensures { λ _. ⌜ length (now (to .exit)) ≡ length (now (to .entry)) ⌝ }
     ensures { λ r. ⌜ Copies (now (out .entry)) from r (now (to .exit)) ⌝ }

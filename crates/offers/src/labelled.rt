@@ -1,4 +1,5 @@
 // The next output or input on the channel of a label, in a state that stands in the work bytes ("Steps").
+use crate::hand;
 use crate::seek;
 use messages::run;
 use moves::step::Actor;
@@ -33,19 +34,12 @@ fn handed(out: &[u8], at: usize, done: Progress, message: &mut [u8]) -> Next
     ensures { λ r. ⌜ HandsOver (now (out .entry)) at done (now (message .entry)) r (now (message .exit)) ⌝ }
 {
     let from = done.sent;
-    let to = done.state.end;
-    if out.len() < to {
+    let long = out.len();
+    if long < from {
         return Next::None;
     }
-    if to < from {
-        return Next::None;
-    }
-    let mid = from + 2 * run::size(&out[from..to]);
-    let size = to - mid;
-    if message.len() < size {
-        return Next::None;
-    }
-    run::put(&out[mid..to], message, 0);
+    let mid = from + 2 * run::size(&out[from..long]);
+    let size = hand::one(out, mid, message);
     Next::Found(Step {
         label: Label::Output,
         mode: 0,

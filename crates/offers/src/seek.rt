@@ -1,10 +1,10 @@
 // The next offer among the threads of a state that stands in the work bytes ("Steps").
+use forms::visit;
 use messages::node;
 use states::progress::Progress;
 use states::state::State;
 use threads::task::Quest;
 use threads::task::Task;
-use walks::visit;
 ghost use mathlib.Core.Path.{_≡_};
 ghost use Prim.Native.Nat.{_+_, _≤_};
 ghost use lib.ListN.{length};

@@ -9,12 +9,15 @@ use Rattle.meaning.specs.Bytes.Process.{Prefix, output, input, Process}
 use Rattle.meaning.specs.Steps.State.{Bound, _▸_, written, worked, Thread, names}
 use Rattle.meaning.specs.Steps.Silent.{Meeting, meeting}
 use Rattle.states.specs.Place.{thenAt, elseAt, bodyAt, rightAt}
-use Rattle.positions.specs.Located.{Acting, acting, inside, replaced}
+use Rattle.positions.specs.Located.{Acting, acting, inside, bare, replacedAs}
 
 -- A sender and a taker.
 pub record Pair : Type 0 where
   pub sender : Acting
   pub taker : Acting
+
+abbrev pub pairOf : Acting → Acting → Pair
+pairOf a b = record { sender = a; taker = b }
 
 -- One pair if the first can send to the second, none otherwise.
 unfoldable pub matching : Acting → Acting → List Pair
@@ -75,38 +78,46 @@ joints (Process.repl P) at ρ n k =
 
 -- The threads of a process with the list zx in the place of the thread at x, and zy in that of the one at y, a different thread. A copy
 -- with x in it is opened at k, one with y in it at j.
-unfoldable pub bothReplaced : (x : ℕ) → (zx : List Thread) → (y : ℕ) → (zy : List Thread) → Process → (at : ℕ) → Bound → (n k j : ℕ)
-    → List Thread
-bothReplaced x zx y zy Process.nil at ρ n k j = []
-bothReplaced x zx y zy (Process.new P) at ρ n k j = bothReplaced x zx y zy P (at + 1) (ρ ▸ leaf (private n)) (suc n) k j
-bothReplaced x zx y zy (Process.act p P) at ρ n k j = elim (eqb at x) [ true ↦ zx | false ↦ replaced y zy (Process.act p P) at ρ n j ]
-bothReplaced x zx y zy (Process.if M N P Q) at ρ n k j =
+unfoldable pub bothReplacedAs : {A : Type 0} → (note : ℕ → Thread → A) → (x : ℕ) → (zx : List A) → (y : ℕ) → (zy : List A) → Process
+    → (at : ℕ) → Bound → (n k j : ℕ) → List A
+bothReplacedAs note x zx y zy Process.nil at ρ n k j = []
+bothReplacedAs note x zx y zy (Process.new P) at ρ n k j = bothReplacedAs note x zx y zy P (at + 1) (ρ ▸ leaf (private n)) (suc n) k j
+bothReplacedAs note x zx y zy (Process.act p P) at ρ n k j =
+    elim (eqb at x) [ true ↦ zx | false ↦ replacedAs note y zy (Process.act p P) at ρ n j ]
+bothReplacedAs note x zx y zy (Process.if M N P Q) at ρ n k j =
     elim (equal (written ρ M) (written ρ N)) [
-      | true ↦ bothReplaced x zx y zy P (thenAt at M N) ρ n k j
-      | false ↦ bothReplaced x zx y zy Q (elseAt at M N P) ρ n k j
+      | true ↦ bothReplacedAs note x zx y zy P (thenAt at M N) ρ n k j
+      | false ↦ bothReplacedAs note x zx y zy Q (elseAt at M N P) ρ n k j
     ]
-bothReplaced x zx y zy (Process.let-in M P) at ρ n k j = bothReplaced x zx y zy P (bodyAt at M) (ρ ▸ worked ρ M) n k j
-bothReplaced x zx y zy (Process.par P Q) at ρ n k j =
-    bothReplaced x zx y zy P (at + 1) ρ n k j ++ bothReplaced x zx y zy Q (rightAt at P) ρ (names P ρ n) k j
-bothReplaced x zx y zy (Process.repl P) at ρ n k j =
+bothReplacedAs note x zx y zy (Process.let-in M P) at ρ n k j = bothReplacedAs note x zx y zy P (bodyAt at M) (ρ ▸ worked ρ M) n k j
+bothReplacedAs note x zx y zy (Process.par P Q) at ρ n k j =
+    bothReplacedAs note x zx y zy P (at + 1) ρ n k j ++ bothReplacedAs note x zx y zy Q (rightAt at P) ρ (names P ρ n) k j
+bothReplacedAs note x zx y zy (Process.repl P) at ρ n k j =
     elim (inside x (at + 1) P) [
-      | true ↦ replaced x zx (Process.repl P) at ρ n k
-      | false ↦ replaced y zy (Process.repl P) at ρ n j
+      | true ↦ replacedAs note x zx (Process.repl P) at ρ n k
+      | false ↦ replacedAs note y zy (Process.repl P) at ρ n j
     ]
 
+abbrev pub bothReplaced : (x : ℕ) → (zx : List Thread) → (y : ℕ) → (zy : List Thread) → Process → (at : ℕ) → Bound → (n k j : ℕ)
+    → List Thread
+bothReplaced x zx y zy P at ρ n k j = bothReplacedAs bare x zx y zy P at ρ n k j
+
 -- What is left of the copies that take part, before the repl thread.
-unfoldable pub left : Joint → List Thread → List Thread → List Thread
-left w zx zy =
+unfoldable pub leftAs : {A : Type 0} → (note : ℕ → Thread → A) → Joint → List A → List A → List A
+leftAs note w zx zy =
     let x = w .pair .sender .place in
     let y = w .pair .taker .place in
     let j = w .pair .sender .next in
     elim (w .two) [
       | true ↦
-          replaced x zx (w .copied) (w .place + 1) (w .bound) (w .opens) (names (w .copied) (w .bound) (w .opens))
-          ++ replaced y zy (w .copied) (w .place + 1) (w .bound) j (names (w .copied) (w .bound) j)
+          replacedAs note x zx (w .copied) (w .place + 1) (w .bound) (w .opens) (names (w .copied) (w .bound) (w .opens))
+          ++ replacedAs note y zy (w .copied) (w .place + 1) (w .bound) j (names (w .copied) (w .bound) j)
       | false ↦
-          bothReplaced x zx y zy (w .copied) (w .place + 1) (w .bound) (w .opens) (names (w .copied) (w .bound) (w .opens)) j
+          bothReplacedAs note x zx y zy (w .copied) (w .place + 1) (w .bound) (w .opens) (names (w .copied) (w .bound) (w .opens)) j
     ]
+
+abbrev pub left : Joint → List Thread → List Thread → List Thread
+left w zx zy = leftAs bare w zx zy
 
 -- The message that is sent. A taker sends none; no pair asks.
 abbrev pub messageOf : Prefix → Term

@@ -22,6 +22,10 @@ pub record Acting : Type 0 where
   pub rest : Process
   pub next : ℕ
 
+-- An offer with another prefix.
+abbrev pub prefixed : Acting → Prefix → Acting
+prefixed a p = record { place = a .place; bound = a .bound; prefix = p; rest = a .rest; next = a .next }
+
 -- The offers of the threads of a process that stands at a position and is settled at the private name n, their copies being opened at k.
 unfoldable pub acting : Process → (at : ℕ) → Bound → (n k : ℕ) → List Acting
 acting Process.nil at ρ n k = []
@@ -37,21 +41,32 @@ acting (Process.repl P) at ρ n k = acting P (at + 1) ρ k (names P ρ k)
 unfoldable pub inside : (x at : ℕ) → Process → Bool
 inside x at P = not (ltb x at) && ltb x (at + length (encodeProcess P))
 
--- Those threads with the list z in the place of the thread at the position x. If that one is in a copy, the copy is opened at k, and
--- what is left of it stands before its repl thread.
-unfoldable pub replaced : (x : ℕ) → (z : List Thread) → Process → (at : ℕ) → Bound → (n k : ℕ) → List Thread
-replaced x z Process.nil at ρ n k = []
-replaced x z (Process.new P) at ρ n k = replaced x z P (at + 1) (ρ ▸ leaf (private n)) (suc n) k
-replaced x z (Process.act p P) at ρ n k = elim (eqb at x) [ true ↦ z | false ↦ act ρ p P ∷ [] ]
-replaced x z (Process.if M N P Q) at ρ n k =
-    elim (equal (written ρ M) (written ρ N)) [ true ↦ replaced x z P (thenAt at M N) ρ n k | false ↦ replaced x z Q (elseAt at M N P) ρ n k ]
-replaced x z (Process.let-in M P) at ρ n k = replaced x z P (bodyAt at M) (ρ ▸ worked ρ M) n k
-replaced x z (Process.par P Q) at ρ n k = replaced x z P (at + 1) ρ n k ++ replaced x z Q (rightAt at P) ρ (names P ρ n) k
-replaced x z (Process.repl P) at ρ n k =
+-- Those threads, each as `note` has it with its position, and the list z in the place of the thread at the position x. If that one is in
+-- a copy, the copy is opened at k, and what is left of it stands before its repl thread.
+unfoldable pub replacedAs : {A : Type 0} → (note : ℕ → Thread → A) → (x : ℕ) → (z : List A) → Process → (at : ℕ) → Bound → (n k : ℕ) → List A
+replacedAs note x z Process.nil at ρ n k = []
+replacedAs note x z (Process.new P) at ρ n k = replacedAs note x z P (at + 1) (ρ ▸ leaf (private n)) (suc n) k
+replacedAs note x z (Process.act p P) at ρ n k = elim (eqb at x) [ true ↦ z | false ↦ note at (act ρ p P) ∷ [] ]
+replacedAs note x z (Process.if M N P Q) at ρ n k =
+    elim (equal (written ρ M) (written ρ N)) [
+      | true ↦ replacedAs note x z P (thenAt at M N) ρ n k
+      | false ↦ replacedAs note x z Q (elseAt at M N P) ρ n k
+    ]
+replacedAs note x z (Process.let-in M P) at ρ n k = replacedAs note x z P (bodyAt at M) (ρ ▸ worked ρ M) n k
+replacedAs note x z (Process.par P Q) at ρ n k =
+    replacedAs note x z P (at + 1) ρ n k ++ replacedAs note x z Q (rightAt at P) ρ (names P ρ n) k
+replacedAs note x z (Process.repl P) at ρ n k =
     elim (eqb at x) [
       | true ↦ z
       | false ↦ elim (inside x (at + 1) P) [
-        | true ↦ replaced x z P (at + 1) ρ k (names P ρ k) ++ (repl ρ P ∷ [])
-        | false ↦ repl ρ P ∷ []
+        | true ↦ replacedAs note x z P (at + 1) ρ k (names P ρ k) ++ (note at (repl ρ P) ∷ [])
+        | false ↦ note at (repl ρ P) ∷ []
       ]
     ]
+
+-- The threads by themselves.
+abbrev pub bare : ℕ → Thread → Thread
+bare at t = t
+
+abbrev pub replaced : (x : ℕ) → (z : List Thread) → Process → (at : ℕ) → Bound → (n k : ℕ) → List Thread
+replaced x z P at ρ n k = replacedAs bare x z P at ρ n k

@@ -10,12 +10,12 @@ use Rattle.positions.specs.Located.{Acting}
 use Rattle.positions.specs.Sought.{Opened}
 use Rattle.threads.specs.declared.task.CopyAt.{CopyAt}
 use Rattle.moves.specs.Spot.{offersOf, copiesOf}
-use Rattle.walks.specs.Visit.{Labelled}
-use Rattle.rests.specs.Reach.{Site, Down, offerSite, copySite, Arrives, countOf}
+use Rattle.forms.specs.Visit.{Labelled}
+use Rattle.ways.specs.Reach.{Site, Down, offerSite, copySite, Arrives, countOf}
 use Rattle.moves.specs.Outcome.{boundAfter}
 use Rattle.moves.specs.CopyOffers.{ThreadAt, copyOffers, Later}
-use Rattle.rests.specs.declared.reach.Reached.{Reached}
-use Rattle.rests.specs.declared.count.Counted.{Counted}
+use Rattle.ways.specs.declared.reach.Reached.{Reached}
+use Rattle.ways.specs.declared.count.Counted.{Counted}
 
 -- Whatever process the thread comes to that has the mark, copies being opened at k: it is reached.
 pub record Comes (s label : List ℕ) (at k to : ℕ) (m : List ℕ) (mark : ℕ) (out : List ℕ) (r : Reached) (after : List ℕ) : Type 0 where
@@ -36,6 +36,11 @@ pub record Entered (s label : List ℕ) (thread : Reached) (to : ℕ) (m : List 
   pub listed : copyOffers but c w ≡ before ++ (a ∷ behind)
   pub meant : mark ≡ a .place + 1
   pub room : to + 3964 ≤ length out
+
+-- Whatever offer was reached: the private names after what follows it, settled at n.
+pub record CountsBehind (s label : List ℕ) (offer : Reached) (to : ℕ) (m : List ℕ) (n : ℕ) (out : List ℕ) (r : Counted) : Type 0 where
+  pub exact : (x : Message) (a : Acting) {i : ℕ} → Arrives s label m offer x (offerSite a i) → n ≤ 28664 → to + 3964 ≤ length out
+      → r ≡ countOf (a .rest) (boundAfter x a) n
 
 -- The offer is reached; and the private names after what follows it, settled at n.
 pub record Enters (s label : List ℕ) (thread : Reached) (to : ℕ) (m : List ℕ) (c : CopyAt) (mark : ℕ) (out : List ℕ) (r : Reached)

@@ -6,14 +6,15 @@ use Prim.Native.Nat.{ℕ, _+_, _≤_}
 use Rattle.meaning.specs.Messages.Term.{Message}
 use Rattle.meaning.specs.Steps.State.{State}
 use Rattle.states.specs.declared.state.State as code
+use Rattle.threads.specs.declared.task.CopyAt.{CopyAt}
 use Rattle.positions.specs.Located.{Acting}
 use Rattle.positions.specs.Joint.{Pair}
 use Rattle.positions.specs.Sought.{Opened}
 use Rattle.moves.specs.Spot.{Spot, recordAt, offersOf, copiesOf}
 use Rattle.moves.specs.Moves.{Move, alone}
 use Rattle.moves.specs.Outcome.{boundAfter, lastOf, outcome}
-use Rattle.walks.specs.Visit.{Labelled}
-use Rattle.rests.specs.Reach.{countOf}
+use Rattle.forms.specs.Visit.{Labelled}
+use Rattle.ways.specs.Reach.{countOf}
 use Rattle.moves.specs.CopyOffers.{ThreadAt, Later, copyOffers, takersAt, butOf, jointWith}
 use Rattle.moves.specs.Step.{actor, stepOf}
 use Rattle.moves.specs.Held.{Held}
@@ -21,8 +22,8 @@ use Rattle.moves.specs.Moving.{Moving, Leading}
 use Rattle.moves.specs.declared.step.Step as step
 use Rattle.moves.specs.declared.step.Actor.{Actor}
 use Rattle.moves.specs.declared.step.Label.the-variants.{Silent}
-use Rattle.rests.specs.declared.count.Counted.{Counted}
-use Rattle.rests.specs.declared.count.Counted.the-variants as counted
+use Rattle.ways.specs.declared.count.Counted.{Counted}
+use Rattle.ways.specs.declared.count.Counted.the-variants as counted
 use Rattle.rests.specs.declared.names.Rests.{Rests}
 use Rattle.rests.specs.declared.names.Rests.the-variants.{At, OverLimit}
 
@@ -45,6 +46,10 @@ onlyOf counted.OverLimit = OverLimit
 abbrev pub thenOf : (last : ℕ) → Counted → Rests
 thenOf last (counted.Names next) = At last next
 thenOf last counted.OverLimit = OverLimit
+
+-- The copies in which the taker of a silent step is, if that is in the thread of the sender.
+abbrev pub stepCopies : step.Step → CopyAt
+stepCopies v = record { place = v .copy; mode = v .mode; second = v .sender .next }
 
 -- The private names of its rests.
 pub record Settles (s : List ℕ) (st : code.State) (v : step.Step) (message m out : List ℕ) (r : Rests) : Type 0 where

@@ -1,5 +1,3 @@
 // The private names that the rests of a step take: what follows the threads that act, settled one after the other ("Steps").
-mod count;
 pub mod names;
 mod numbers;
-mod reach;

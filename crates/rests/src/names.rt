@@ -1,16 +1,16 @@
 // The private names that the rests of a step take ("Steps").
-use crate::count::Counted;
 use crate::numbers;
 use moves::step::Actor;
 use moves::step::Label;
 use moves::step::Step;
 use states::state::State;
 use threads::task::CopyAt;
+use ways::count::Counted;
 ghost use mathlib.Core.Path.{_≡_};
 ghost use Prim.Native.Nat.{_≤_};
 ghost use lib.ListN.{length};
 ghost use Rattle.messages.specs.Buffer.{Within};
-ghost use Rattle.rests.specs.Rests.{onlyOf, thenOf, CountsActor, CountsTaker, SettlesSilent, Settles};
+ghost use Rattle.rests.specs.Rests.{onlyOf, thenOf, stepCopies, CountsActor, CountsTaker, SettlesSilent, Settles};
 
 // The private names at which the rest of a silent step's taker is settled, and the next one after all rests; or a rest meets a limit.
 pub enum Rests {
@@ -119,6 +119,18 @@ fn after(
     )
 }
 
+// The copies in which the taker of a silent step is, if that is in the thread of the sender.
+pub fn copies(step: Step) -> CopyAt
+    ensures { λ r. ⌜ r ≡ stepCopies step ⌝ }
+{
+    let sender = step.sender;
+    CopyAt {
+        place: step.copy,
+        mode: step.mode,
+        second: sender.next,
+    }
+}
+
 // The same for the taker of a silent step: in another thread, whose copies open after the sender's; or in the copies of one thread.
 fn after_taker(
     s: &[u8],
@@ -157,11 +169,6 @@ fn after_taker(
             out,
         );
     }
-    let copies = CopyAt {
-        place: step.copy,
-        mode: mode,
-        second: sender.next,
-    };
     numbers::count_in(
         s,
         message,
@@ -169,7 +176,7 @@ fn after_taker(
         state.names,
         state.end,
         m,
-        copies,
+        copies(step),
         taker.mark,
         names,
         out,

@@ -1,15 +1,15 @@
 // The private names that the rests of a step take ("Steps").
-use crate::count;
-use crate::count::Counted;
-use crate::reach;
-use crate::reach::Reached;
+use forms::visit;
 use states::stored;
 use threads::task::CopyAt;
-use walks::visit;
+use ways::count;
+use ways::count::Counted;
+use ways::reach;
+use ways::reach::Reached;
 ghost use Prim.Native.Nat.{_+_, _≤_};
 ghost use lib.ListN.{length};
 ghost use Rattle.messages.specs.Buffer.{Within};
-ghost use Rattle.rests.specs.Numbers.{Comes, Enters, CountsCopy, Counts, CountsIn};
+ghost use Rattle.rests.specs.Numbers.{Comes, Enters, CountsBehind, CountsCopy, Counts, CountsIn};
 
 // The most process nodes on one path.
 const NODES: usize = 64;
@@ -102,6 +102,37 @@ fn enter(
     )
 }
 
+// The private name after those of what follows the offer that was reached, settled at a private name.
+fn behind(
+    s: &[u8],
+    label: &[u8],
+    offer: Reached,
+    to: usize,
+    m: &mut [u8],
+    names: usize,
+    out: &mut [u8],
+) -> Counted
+    requires { ⌜ (offer .end ≤ length (now m)) × (length (now s) ≤ 4096) ⌝ }
+    ensures { λ _. ⌜ Within 0 (length (now (m .entry))) (now (m .entry)) (now (m .exit)) ⌝ }
+    ensures { λ _. ⌜ Within to (length (now (out .entry))) (now (out .entry)) (now (out .exit)) ⌝ }
+    ensures { λ r. ⌜ CountsBehind (now (s .entry)) (now (label .entry)) offer to (now (m .entry)) names (now (out .entry)) r ⌝ }
+{
+    if offer.there {
+        return count::rest(
+            s,
+            label,
+            offer.at,
+            offer.left,
+            m,
+            offer.end,
+            names,
+            out,
+            visit::begin(to, names),
+        );
+    }
+    Counted::OverLimit
+}
+
 // The private name after those of what follows the offer at a mark in the copies of a repl thread, settled at a private name.
 fn count_copy(
     s: &[u8],
@@ -120,20 +151,7 @@ fn count_copy(
     ensures { λ r. ⌜ CountsCopy (now (s .entry)) (now (label .entry)) thread to (now (m .entry)) copy mark names (now (out .entry)) r ⌝ }
 {
     let offer = enter(s, label, thread, to, m, copy, mark, out);
-    if offer.there {
-        return count::rest(
-            s,
-            label,
-            offer.at,
-            offer.left,
-            m,
-            offer.end,
-            names,
-            out,
-            visit::begin(to, names),
-        );
-    }
-    Counted::OverLimit
+    behind(s, label, offer, to, m, names, out)
 }
 
 // The private name after those of what follows the offer at a mark of the thread whose record stands at a position, settled at a private
@@ -155,20 +173,7 @@ pub fn count(
     ensures { λ r. ⌜ Counts (now (s .entry)) (now (label .entry)) at opens to (now (m .entry)) mark names (now (out .entry)) r ⌝ }
 {
     let offer = arrive(s, label, at, opens, to, m, mark, out);
-    if offer.there {
-        return count::rest(
-            s,
-            label,
-            offer.at,
-            offer.left,
-            m,
-            offer.end,
-            names,
-            out,
-            visit::begin(to, names),
-        );
-    }
-    Counted::OverLimit
+    behind(s, label, offer, to, m, names, out)
 }
 
 // The same for an offer in the copies of a repl thread.

@@ -1,13 +1,13 @@
 // Steps asked of the library: the next one of a label, how many there are, and where one leads.
 use crate::label::MESSAGE;
 use crate::text;
+use forms::form::Formed;
 use moves::step::Label;
 use moves::step::Next;
 use moves::step::Step;
 use states::state::State;
 use steps::next;
 use successors::lead;
-use walks::form::Formed;
 ghost use Prim.Native.Nat.{_≤_};
 
 // The longest model, and the most steps of a label that are counted.

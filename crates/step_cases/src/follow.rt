@@ -4,12 +4,12 @@ use crate::ask::Led;
 use crate::label;
 use crate::label::MESSAGE;
 use crate::tell;
+use forms::form;
+use forms::form::Formed;
 use moves::step::Label;
 use moves::step::Step;
 use states::state::State;
 use steps::next;
-use walks::form;
-use walks::form::Formed;
 ghost use Prim.Native.Nat.{_≤_, _<_};
 ghost use lib.ListN.{length};
 

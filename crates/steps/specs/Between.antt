@@ -15,7 +15,7 @@ use Rattle.positions.specs.Joint.{Pair, messageOf}
 use Rattle.positions.specs.Sought.{wanted}
 use Rattle.moves.specs.Spot.{Spot, spots, spotsFrom, recordAt, offersOf, filter}
 use Rattle.moves.specs.Threads.{Threads}
-use Rattle.walks.specs.Visit.{Labelled}
+use Rattle.forms.specs.Visit.{Labelled}
 use Rattle.moves.specs.Moves.{Move, between, meetings}
 use Rattle.moves.specs.Outcome.{same}
 use Rattle.offers.specs.Seek.{Sight, unseen, seen, afresh, Sees, ShowsSight}

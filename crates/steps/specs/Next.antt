@@ -7,7 +7,7 @@ use Rattle.meaning.specs.Steps.State.{State}
 use Rattle.states.specs.Record.{Placed}
 use Rattle.states.specs.declared.state.State as code
 use Rattle.moves.specs.Moves.{Move, silentMoves}
-use Rattle.walks.specs.Visit.{Labelled}
+use Rattle.forms.specs.Visit.{Labelled}
 use Rattle.moves.specs.Held.{Held}
 use Rattle.moves.specs.Threads.{Threads}
 use Rattle.moves.specs.CopyMoves.{Roomy}

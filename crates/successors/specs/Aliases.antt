@@ -12,7 +12,7 @@ use Rattle.states.specs.Shown.{Shows}
 use Rattle.states.specs.Room.{freshState}
 use Rattle.states.specs.declared.state.State.{State}
 use Rattle.states.specs.declared.progress.Progress.{Progress}
-use Rattle.walks.specs.Visit.{Labelled}
+use Rattle.forms.specs.Visit.{Labelled}
 
 -- An output appends its message.
 abbrev pub appended : (sends : Bool) → Bound → Message → Bound

@@ -6,9 +6,9 @@ use mathlib.Core.List.{List}
 use Prim.Native.Nat.{ℕ}
 use Rattle.meaning.specs.Messages.Term.{Message}
 use Rattle.meaning.specs.Steps.State.{State}
-use Rattle.walks.specs.Form.{Forms}
+use Rattle.forms.specs.Form.{Forms}
 use Rattle.states.specs.declared.state.State as code
-use Rattle.walks.specs.declared.form.Formed.{Formed}
+use Rattle.forms.specs.declared.form.Formed.{Formed}
 use Rattle.moves.specs.Moves.{Move}
 use Rattle.moves.specs.Outcome.{outcome, arrivalOf}
 use Rattle.moves.specs.Held.{Held}

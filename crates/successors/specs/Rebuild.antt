@@ -9,13 +9,13 @@ use lib.ListN.{length}
 use Rattle.meaning.specs.Messages.Term.{Message}
 use Rattle.states.specs.Record.{Placed, processOf, boundOf, encodeRecord}
 use Rattle.states.specs.Course.{Going, Course, going, further, push}
-use Rattle.threads.specs.Machine.{go}
+use Rattle.walks.specs.Walking.{go}
 use Rattle.states.specs.Shown.{Shows, ShowsCourse}
 use Rattle.walks.specs.Walk.{Meant}
 use Rattle.threads.specs.declared.task.Task.{Task}
 use Rattle.states.specs.declared.progress.Progress.{Progress}
 use Rattle.moves.specs.Threads.{Threads}
-use Rattle.walks.specs.Visit.{Labelled, RecordAt, NamesSmall}
+use Rattle.forms.specs.Visit.{Labelled, RecordAt, NamesSmall}
 
 -- The walk over a thread for a task.
 abbrev pub goOver : Placed → Task → Message → Going → Course

@@ -2,12 +2,12 @@
 use crate::aliases;
 use crate::rebuild;
 use crate::tasks;
+use forms::form;
+use forms::form::Formed;
 use moves::step::Step;
 use rests::names;
 use rests::names::Rests;
 use states::state::State;
-use walks::form;
-use walks::form::Formed;
 ghost use Prim.Native.Nat.{_≤_};
 ghost use lib.ListN.{length};
 ghost use Rattle.messages.specs.Buffer.{Within};

@@ -1,9 +1,9 @@
 // The threads of a state, written into the next one ("Steps"): those that act as their tasks leave them, the others as they are.
+use forms::visit;
 use messages::node;
 use states::progress::Progress;
 use states::stored;
 use threads::task::Task;
-use walks::visit;
 ghost use Prim.Native.Nat.{_+_, _≤_};
 ghost use lib.ListN.{length};
 ghost use Rattle.messages.specs.Buffer.{Within};

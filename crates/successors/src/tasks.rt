@@ -1,7 +1,7 @@
 // What a step does to the threads that act ("Steps").
 use moves::step::Label;
 use moves::step::Step;
-use threads::task::CopyAt;
+use rests::names;
 use threads::task::Plan;
 use threads::task::Task;
 ghost use mathlib.Core.Path.{_≡_};
@@ -28,6 +28,31 @@ fn still() -> Plan
     }
 }
 
+// A plan in which a sender acts alone, or a taker: its mark, and the private name at which its rest is settled.
+fn sending(mark: usize, rest: usize) -> Plan
+    ensures { λ r. ⌜ r ≡ plan mark 0 0 rest 0 ⌝ }
+{
+    Plan {
+        sender: mark,
+        taker: 0,
+        second: 0,
+        rest: rest,
+        last: 0,
+    }
+}
+
+fn taking(mark: usize, rest: usize) -> Plan
+    ensures { λ r. ⌜ r ≡ plan 0 mark 0 0 rest ⌝ }
+{
+    Plan {
+        sender: 0,
+        taker: mark,
+        second: 0,
+        rest: 0,
+        last: rest,
+    }
+}
+
 // The tasks of a silent step: of two threads, or of the copies of one.
 fn assign_silent(step: Step, last: usize, names: usize) -> Tasks
     ensures { λ r. ⌜ r ≡ silentTasks step last names ⌝ }
@@ -35,27 +60,12 @@ fn assign_silent(step: Step, last: usize, names: usize) -> Tasks
     let sender = step.sender;
     let taker = step.taker;
     let mode = step.mode;
-    let copy = step.copy;
     if mode == 0 {
-        let sends = Plan {
-            sender: sender.mark,
-            taker: 0,
-            second: 0,
-            rest: taker.next,
-            last: 0,
-        };
-        let takes = Plan {
-            sender: 0,
-            taker: taker.mark,
-            second: 0,
-            rest: 0,
-            last: last,
-        };
         return Tasks {
             first: sender.at,
-            task: Task::Build(sends, names),
+            task: Task::Build(sending(sender.mark, taker.next), names),
             second: taker.at,
-            other: Task::Build(takes, sender.next),
+            other: Task::Build(taking(taker.mark, last), sender.next),
         };
     }
     let both = Plan {
@@ -65,14 +75,9 @@ fn assign_silent(step: Step, last: usize, names: usize) -> Tasks
         rest: taker.next,
         last: last,
     };
-    let copies = CopyAt {
-        place: copy,
-        mode: mode,
-        second: sender.next,
-    };
     Tasks {
         first: sender.at,
-        task: Task::BuildIn(both, copies, names),
+        task: Task::BuildIn(both, names::copies(step), names),
         second: sender.at,
         other: Task::Build(still(), names),
     }
@@ -86,36 +91,18 @@ pub(crate) fn assign(step: Step, last: usize, names: usize) -> Tasks
     let taker = step.taker;
     let label = step.label;
     match label {
-        Label::Output => {
-            let sends = Plan {
-                sender: sender.mark,
-                taker: 0,
-                second: 0,
-                rest: sender.next,
-                last: 0,
-            };
-            Tasks {
-                first: sender.at,
-                task: Task::Build(sends, names),
-                second: sender.at,
-                other: Task::Build(still(), names),
-            }
-        }
-        Label::Input => {
-            let takes = Plan {
-                sender: 0,
-                taker: taker.mark,
-                second: 0,
-                rest: 0,
-                last: taker.next,
-            };
-            Tasks {
-                first: taker.at,
-                task: Task::Build(takes, names),
-                second: taker.at,
-                other: Task::Build(still(), names),
-            }
-        }
+        Label::Output => Tasks {
+            first: sender.at,
+            task: Task::Build(sending(sender.mark, sender.next), names),
+            second: sender.at,
+            other: Task::Build(still(), names),
+        },
+        Label::Input => Tasks {
+            first: taker.at,
+            task: Task::Build(taking(taker.mark, taker.next), names),
+            second: taker.at,
+            other: Task::Build(still(), names),
+        },
         Label::Silent => assign_silent(step, last, names),
     }
 }

@@ -8,6 +8,3 @@ pub mod Walk
 pub mod Copy
 pub mod Prefix
 pub mod Repl
-pub mod Form
-pub mod Small
-pub mod Visit

@@ -1,5 +1,4 @@
 pub mod Settled
 pub mod News
+pub mod Walking
 pub mod Walk
-pub mod Form
-pub mod Visit

@@ -20,7 +20,8 @@ use Rattle.states.specs.Progress.{Extends}
 use Rattle.states.specs.Shown.{Shows, ShowsCourse}
 use Rattle.walks.specs.News.{news, laterNews}
 use Rattle.states.specs.Course.{Going, Course, going, further, named, returned}
-use Rattle.threads.specs.Machine.{opened, built, atPrefix, go}
+use Rattle.threads.specs.Machine.{opened}
+use Rattle.walks.specs.Walking.{built, atPrefix, go}
 use Rattle.repls.specs.Copies.{openedBy, inCopies, lastly}
 use Rattle.threads.specs.declared.task.Task.{Task}
 use Rattle.threads.specs.declared.task.Task.the-variants.{Count, Judge, Settle, Seek, SeekIn, Find, Build, BuildIn}

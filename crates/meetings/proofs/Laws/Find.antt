@@ -12,7 +12,7 @@ use Rattle.meaning.proofs.Messages.{normalForms}
 use Rattle.messages.specs.Encoding.{encodeNode, encodeMessage}
 use Rattle.states.specs.Record.{Placed, processOf, boundOf}
 use Rattle.states.specs.Course.{Going, going, named}
-use Rattle.threads.specs.Machine.{go}
+use Rattle.walks.specs.Walking.{go}
 use Rattle.states.specs.Shown.{ShowsCourse}
 use Rattle.threads.specs.declared.task.Task.the-variants.{Find}
 use Rattle.states.specs.declared.progress.Progress.{Progress}
@@ -20,11 +20,11 @@ use Rattle.positions.specs.Sought.{Opened, firstCopy}
 use Rattle.positions.proofs.Laws.Find.{foundFirst, foundNext}
 use Rattle.moves.specs.Spot.{copiesOf}
 use Rattle.moves.specs.Threads.{Judged}
-use Rattle.walks.specs.Visit.{Begins, Labelled, Visits}
-use Rattle.walks.specs.Visit.{nothingYet}
+use Rattle.forms.specs.Visit.{Begins, Labelled, Visits}
+use Rattle.forms.specs.Visit.{nothingYet}
 use Rattle.moves.specs.CopyOffers.{ThreadAt}
 use Rattle.meetings.specs.Joint.{ShowsCopy, Finds}
-use Rattle.walks.proofs.Laws.Visit.{begins-shown}
+use Rattle.forms.proofs.Laws.Visit.{begins-shown}
 use Rattle.moves.proofs.Laws.Opened.{judged-free, copies-settled}
 
 -- A label that does not matter.

@@ -11,7 +11,6 @@ use Rattle.messages.specs.Encoding.{numberAt}
 use Rattle.messages.specs.Buffer.{Within}
 use Rattle.states.specs.Record.{Placed, encodeRecord, encodeRecords}
 use Rattle.states.specs.declared.progress.Progress.{Progress}
-use Rattle.states.proofs.Laws.Stored.{record-parts}
 use Rattle.positions.specs.Sought.{Opened}
 use Rattle.moves.specs.Spot.{Spot, spotsFrom, recordAt, copiesOf}
 use Rattle.moves.specs.Threads.{Threads}
@@ -24,24 +23,10 @@ use Rattle.meetings.specs.Joint.{Joins, ShowsCopy, Finds, Passes}
 use Rattle.moves.specs.declared.step.Next.{Next}
 use Rattle.moves.specs.declared.step.Next.the-variants as next
 use Rattle.moves.specs.declared.step.Step.{Step}
-use Rattle.moves.proofs.Laws.Front.{records-further}
-use Rattle.meetings.proofs.Laws.Groups.{few-groups}
-use Rattle.moves.proofs.Laws.Threads.{first-thread, threads-kept, no-threads}
-
--- A step is one thing, none another.
-found-or-none : {v : Step} → next.Found v ≡ next.None → ⊥
-found-or-none e = let z : _≡_ {A = ℕ} 0 1 = cc in omega arith
-
--- What is shown first is shown of more; where nothing is shown, what comes next is.
-module _ (start : ℕ) where
-  pub shown-more : (said : List ℕ) (v : Step) (xs ys : List Move) → Shown start said (next.Found v) xs → Shown start said (next.Found v) (xs ++ ys)
-  shown-more said v [] ys e = absurd (found-or-none e)
-  shown-more said v (x ∷ xs) ys h = h
-
-  pub shown-next : (said₁ said : List ℕ) (r : Next) (xs ys : List Move) → Shown start said₁ next.None xs → Shown start said r ys
-      → Shown start said r (xs ++ ys)
-  shown-next said₁ said r [] ys e h = h
-  shown-next said₁ said r (x ∷ xs) ys e h = absurd (found-or-none (sym (e .0)))
+use Rattle.moves.proofs.Laws.Records.{records-further}
+use Rattle.meetings.proofs.Laws.ReplThreads.{few-groups}
+use Rattle.meetings.proofs.Laws.Shown.{found-or-none, shown-more, shown-next}
+use Rattle.moves.proofs.Laws.Threads.{first-thread, threads-kept, no-threads, record-end}
 
 -- The steps of a thread and of those behind it, and of its repl threads one by one.
 moves-first : (k : ℕ) (ls : List Placed) (t : Placed) (ts : List Placed)
@@ -83,14 +68,6 @@ moves-two : (k : ℕ) (p : Spot) (w : Opened) (post : List Opened) → copyMoves
 unfolding copyMovesFrom
 moves-two k p w post =
     ap (λ l. l ++ flatMap (groupMoves p) post ++ copyMoves k (laterSpots p)) (append-nil (moved p 2 w (pairsFrom 2 w 0 (senders w 0))))
-
--- A record takes at least four bytes, before the end of the state.
-record-end : {s out : List ℕ} {at k to : ℕ} (t : Placed) (ts : List Placed) → Threads s out at k (t ∷ ts) to
-    → (length (encodeRecord t) ≡ 4 + numberAt out (at + 2)) × (at + length (encodeRecord t) ≤ to)
-record-end t ts h =
-    let (p, j, rest) = first-thread t ts h in
-    let (a, b, c) = record-parts t (p .stands) in
-    (omega (arith, c .size), omega (arith, rest .stands .size))
 
 -- The first thread, with room for a walk over it.
 pub thread-at : {s out m message : List ℕ} {at k to : ℕ} (t : Placed) (ts : List Placed) → Threads s out at k (t ∷ ts) to

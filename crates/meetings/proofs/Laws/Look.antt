@@ -16,7 +16,8 @@ use Rattle.meaning.proofs.Messages.{normalForms}
 use Rattle.messages.specs.Encoding.{encodeNode, encodeMessage}
 use Rattle.states.specs.Record.{Placed, processOf, boundOf}
 use Rattle.states.specs.Course.{Going, going, found, named}
-use Rattle.threads.specs.Machine.{holds, atPrefix, atRepl, go}
+use Rattle.threads.specs.Machine.{holds, atRepl}
+use Rattle.walks.specs.Walking.{atPrefix, go}
 use Rattle.walks.specs.News.{laterNews}
 use Rattle.states.specs.Shown.{ShowsCourse}
 use Rattle.threads.specs.declared.task.Task.the-variants.{SeekIn}
@@ -25,16 +26,16 @@ use Rattle.threads.specs.declared.task.CopyAt.{CopyAt}
 use Rattle.states.specs.declared.progress.Progress.{Progress}
 use Rattle.positions.specs.Located.{Acting}
 use Rattle.positions.specs.Sought.{wanted, sentBy, first, offersBut, Opened}
-use Rattle.positions.proofs.Laws.SeekFirst.{holds-none}
 use Rattle.positions.proofs.Laws.SeekIn.{soughtInFirst, soughtInSame, soughtInSecond}
 use Rattle.positions.proofs.Laws.Walking.{Free, free-later, free-opened}
+use Rattle.positions.proofs.Laws.Marks.{holds-none}
 use Rattle.moves.specs.Spot.{copiesOf, filter}
 use Rattle.moves.specs.Threads.{Judged}
-use Rattle.walks.specs.Visit.{Begins, Labelled, Visits}
-use Rattle.walks.specs.Visit.{nothingYet}
+use Rattle.forms.specs.Visit.{Begins, Labelled, Visits}
+use Rattle.forms.specs.Visit.{nothingYet}
 use Rattle.moves.specs.CopyOffers.{ThreadAt, copyOffers, Later, outputs, senders}
 use Rattle.meetings.specs.Meet.{ShowsFirst, Looks, Sends}
-use Rattle.walks.proofs.Laws.Visit.{begins-shown}
+use Rattle.forms.proofs.Laws.Visit.{begins-shown}
 use Rattle.moves.proofs.Laws.Opened.{Opening, opened-all, names-later, judged-clear, judged-free, copies-settled}
 
 -- No repl thread has the mark 0.
@@ -157,7 +158,7 @@ looks s label at {to} m q c k out {now} {r} {after} begins v = record {
         v .exact t x (nothingYet k) (h .recorded) d (h .short) (h .wide) (few also few also l also none) tt (begins-shown now begins (h .room))
 
 -- The run of the public name 0 is a label.
-label-zero : {label : List ℕ} → label ≡ 16 ∷ 0 ∷ [] → Labelled label (leaf (public 0))
+pub label-zero : {label : List ℕ} → label ≡ 16 ∷ 0 ∷ [] → Labelled label (leaf (public 0))
 unfolding encodeMessage encodeNode normal
 label-zero e = record { same = e; small = rw e (omega arith); normal = normalForms (leaf (public 0)) .0 }
 

@@ -6,38 +6,21 @@ use Prim.Native.Nat.{ℕ, _≤_, _<_}
 use native.Mathlib.Omega.{arith}
 use lib.ListN.{length}
 use Rattle.messages.specs.Buffer.{Within}
-use Rattle.messages.proofs.Laws.Buffer.{kept}
 use Rattle.states.specs.Shown.{Found}
 use Rattle.states.specs.declared.progress.Progress.{Progress}
 use Rattle.positions.specs.Located.{Acting}
 use Rattle.positions.specs.Sought.{sentBy, Opened}
 use Rattle.moves.specs.Spot.{Spot}
-use Rattle.moves.specs.Moves.{Move}
-use Rattle.moves.specs.Step.{stepOf, Shown}
+use Rattle.moves.specs.Step.{Shown}
 use Rattle.meetings.specs.Meet.{ShowsFirst, CopyOf, Sends, Pairs, Onward, Meets}
 use Rattle.moves.specs.CopyOffers.{pairsOf, pairsFrom, senders, moved}
 use Rattle.moves.specs.declared.step.Step as code
 use Rattle.moves.specs.declared.step.Next.{Next}
 use Rattle.moves.specs.declared.step.Next.the-variants as next
+use Rattle.moves.proofs.Laws.Threads.{thread-kept}
 use Rattle.meetings.proofs.Laws.Senders.{sender-next}
-use Rattle.meetings.proofs.Laws.Taken.{mark-inside}
-
--- There are more moves behind the first.
-shown-more : (start : ℕ) (said : List ℕ) (t : code.Step) (us vs : List Move) → Shown start said (next.Found t) us
-    → Shown start said (next.Found t) (us ++ vs)
-shown-more start said t [] vs h = absurd (found-none h)
-  where
-    found-none : next.Found t ≡ next.None → ⊥
-    found-none e = let z : _≡_ {A = ℕ} 0 1 = cc in omega arith
-shown-more start said t (u ∷ us) vs h = h
-
--- Nothing is shown where there is nothing.
-shown-none : (start : ℕ) (said : List ℕ) (us : List Move) → Shown start said next.None us → us ≡ []
-shown-none start said [] h = refl
-shown-none start said (u ∷ us) (h, l) = absurd (none-found h)
-  where
-    none-found : next.None ≡ next.Found (stepOf start u) → ⊥
-    none-found e = let z : _≡_ {A = ℕ} 0 1 = cc in omega arith
+use Rattle.meetings.proofs.Laws.Takers.{mark-inside}
+use Rattle.meetings.proofs.Laws.Shown.{shown-more, shown-none}
 
 -- The pairs of the first sender, then those of the others.
 moved-first : (p : Spot) (mode : ℕ) (w : Opened) (y : ℕ) (a : Acting) (others : List Acting)
@@ -48,32 +31,16 @@ moved-first p mode w y a others = map-append _ (pairsOf mode w y a) (pairsFrom m
 -- A copy stays where nothing is written before the end of its thread.
 copy-kept : {s out m out₁ m₁ : List ℕ} {start at k to mode copy high : ℕ} (p : Spot) (w : Opened) → CopyOf s out m start at k to p mode copy w
     → Within 0 high m m₁ → Within to (length out) out out₁ → CopyOf s out₁ m₁ start at k to p mode copy w
-copy-kept p w d wm wo =
-    let t = d .thread in
-    record {
-      thread = record {
-        next = t .next;
-        recorded = record {
-          stands = kept (t .recorded .stands) (t .below) (wo .below);
-          standing = t .recorded .standing;
-          light = t .recorded .light;
-          small = t .recorded .small;
-        };
-        below = t .below;
-        judged = t .judged;
-        short = t .short;
-        wide = omega (arith, wm .long, t .wide);
-        room = omega (arith, wo .long, t .room);
-        few = t .few;
-      };
-      position = d .position;
-      pre = d .pre;
-      post = d .post;
-      listed = d .listed;
-      meant = d .meant;
-      mode-low = d .mode-low;
-      mode-high = d .mode-high;
-    }
+copy-kept p w d wm wo = record {
+  thread = thread-kept (p .thread) wo wm (d .thread);
+  position = d .position;
+  pre = d .pre;
+  post = d .post;
+  listed = d .listed;
+  meant = d .meant;
+  mode-low = d .mode-low;
+  mode-high = d .mode-high;
+}
 
 module _ (s : List ℕ) (at k to : ℕ) (m : List ℕ) (copy mode : ℕ) (now : Progress) (y : ℕ) (out message : List ℕ) where
   pub onward-found : {b : Next} {t : code.Step} {said : List ℕ} → Pairs s at k to m copy mode now y out message b said → b ≡ next.Found t

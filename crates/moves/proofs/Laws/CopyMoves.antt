@@ -1,31 +1,31 @@
 -- Silent steps in copies are those of the definitions, in the same order ("Steps"). Assumes nothing.
-use Prim.Native.Nat.{ℕ, _+_, _-_}
+use Prim.Native.Nat.{ℕ, _+_, _-_, _≤_}
 use native.Mathlib.Omega.{arith}
 use mathlib.Core.Path.{_≡_, refl, sym, _∙_, ap, ap₂, fun-ext}
 use mathlib.Core.Bool.{Bool, true, false}
 use mathlib.Core.List.{List, [], _∷_, _++_, map, map-append, map-map, flatMap}
-use borrow.Author.Tests.{le-ltb, ne-eqb}
-use lib.Dec.{T}
+use borrow.Author.Tests.{le-ltb, ne-eqb, eqb-true, eqb-false}
+use lib.Dec.{T, eqb}
 use Rattle.meaning.specs.Messages.Term.{leaf, public, Message}
 use Rattle.meaning.specs.Messages.Normal.{same, equal}
 use Rattle.meaning.specs.Bytes.Process.{Prefix, output, input, Process}
 use Rattle.meaning.specs.Steps.State.{Bound, names, worked}
 use Rattle.meaning.proofs.Messages.Same.{same-sound, same-refl}
-use Rattle.meaning.proofs.Test.{T-alike, chosen as tested}
+use Rattle.meaning.proofs.Test.{T-alike}
 use Rattle.states.specs.Record.{Placed, processOf, boundOf}
-use Rattle.positions.specs.Located.{Acting, acting}
-use Rattle.positions.specs.Joint.{Pair, matching, actingBut, pairs, copyPairs}
+use Rattle.positions.specs.Located.{Acting, acting, prefixed}
+use Rattle.positions.specs.Joint.{Pair, matching, actingBut, pairs, copyPairs, pairOf}
 use Rattle.positions.specs.Sought.{wanted, offersBut, Opened}
 use Rattle.positions.proofs.Laws.Block.{map-flatMap}
 use Rattle.positions.proofs.Laws.Copies as walks
 use Rattle.positions.proofs.Laws.Copies.{jointOf, copiesSteps}
 use Rattle.moves.specs.Spot.{Spot, spots, copiesOf, jointsOf, filter}
 use Rattle.moves.specs.Moves.{inside, meetings, silentMoves}
-use Rattle.moves.specs.CopyOffers.{copyOffers, outputs, inputs, channelOf, takersAt, butOf, pairsOf, pairsFrom, senders, moved}
+use Rattle.moves.specs.CopyOffers.{copyOffers, outputs, inputs, channelOf, takersAt, butOf, pairsOf, pairsFrom, senders, moved, jointWith}
 use Rattle.moves.specs.CopyMoves.{groupMoves, copyMoves}
 use Rattle.moves.specs.Resumption.{CopyMovesAll}
-use Rattle.moves.proofs.Laws.MovesLists.{flatMap-none, flatMap-filter}
-use Rattle.moves.proofs.Laws.Moves.{prefixed}
+use Rattle.moves.specs.Step.{modeOf}
+use Rattle.moves.proofs.Laws.MovesLists.{flatMap-none, flatMap-filter, flatMap-kept}
 
 -- The order of two messages that are compared does not matter.
 same-turned : (m n : Message) → same m n ≡ same n m
@@ -34,11 +34,16 @@ same-turned m n = T-alike (same m n) (same n m) (turn m n) (turn n m)
     turn : (m n : Message) → T (same m n) → T (same n m)
     turn m n t = rw (same-sound m n t) (same-refl n)
 
--- The takers of an offer: it has none if it is an input.
-abbrev pairOf : Acting → Acting → Pair
-pairOf a b = record { sender = a; taker = b }
+-- The number of copies that take part.
+pub mode-of : (mode : ℕ) (w : Opened) (v : Pair) → 1 ≤ mode → mode ≤ 2 → modeOf (jointWith mode w v) ≡ mode
+mode-of mode w v low high = by-test (eqb mode 2) refl
+  where
+    by-test : (b : Bool) → eqb mode 2 ≡ b → elim b [ true ↦ 2 | false ↦ 1 ] ≡ mode
+    by-test true e = sym (eqb-true mode 2 e)
+    by-test false e = let other = eqb-false mode 2 e in omega arith
 
-matching-output : (but : ℕ) (a : Acting) (C M : _) (b : Acting) → let s = prefixed a (output C M) in
+-- The takers of an offer: it has none if it is an input.
+pub matching-output : (but : ℕ) (a : Acting) (C M : _) (b : Acting) → let s = prefixed a (output C M) in
     matching s b ≡ elim (wanted (inputs 0 but) (channelOf s) b) [ true ↦ pairOf s b ∷ [] | false ↦ [] ]
 unfolding matching wanted equal
 matching-output but a C M b = of (b .prefix)
@@ -51,7 +56,7 @@ matching-output but a C M b = of (b .prefix)
     of (output D N) = refl
     of (input D) = rw (le-ltb (b .place) 0 (omega arith), same-turned (worked (b .bound) D) (worked (a .bound) C))
 
-matching-input : (a : Acting) (C : _) (b : Acting) → matching (prefixed a (input C)) b ≡ []
+pub matching-input : (a : Acting) (C : _) (b : Acting) → matching (prefixed a (input C)) b ≡ []
 unfolding matching
 matching-input a C b = of (b .prefix)
   where
@@ -74,15 +79,6 @@ matching-all but a bs = of (a .prefix)
         flatMap-filter (wanted (inputs 0 but) (channelOf s)) (matching s) (pairOf s) (matching-output but a C M) bs
         ∙ sym (rw (le-ltb (a .place) 0 (omega arith)))
     of (input C) = flatMap-none (matching (prefixed a (input C))) (matching-input a C) bs
-
--- A list for each of those elements that pass a test.
-flatMap-kept : {A B : Type 0} (test : A → Bool) (f g : A → List B) → ((x : A) → g x ≡ elim (test x) [ true ↦ f x | false ↦ [] ])
-    → (xs : List A) → flatMap f (filter test xs) ≡ flatMap g xs
-unfolding flatMap filter
-flatMap-kept test f g e [] = refl
-flatMap-kept test f g e (x ∷ xs) =
-    tested (λ u v. flatMap f u ≡ v ++ flatMap f (filter test xs)) (test x) refl refl
-    ∙ ap₂ _++_ (sym (e x)) (flatMap-kept test f g e xs)
 
 pub pairs-flat : (mode : ℕ) (w : Opened) (xs : List Acting) → pairsFrom mode w 0 xs ≡ flatMap (pairsOf mode w 0) xs
 unfolding pairsFrom flatMap

@@ -15,15 +15,12 @@ use Rattle.threads.specs.declared.task.CopyAt.{CopyAt}
 use Rattle.positions.specs.Located.{Acting, acting, inside}
 use Rattle.positions.specs.Joint.{actingBut}
 use Rattle.positions.specs.Sought.{offersBut, Opened}
-use Rattle.positions.proofs.Laws.Located.{Part, new-part, then-part, else-part, let-part, left-part, right-part, repl-part, part-inside}
-use Rattle.positions.proofs.Laws.Located.{Inside, inside-bounds, at-inside, acting-inside}
+use Rattle.positions.proofs.Laws.Located.{Part, new-part, then-part, else-part, let-part, left-part, right-part, repl-part}
+use Rattle.positions.proofs.Laws.Located.{Inside, inside-bounds, at-inside, acting-inside, part-every}
 use Rattle.positions.proofs.Laws.Increasing.{Increasing, end, first, increasing-lower, increasing-joined, acting-increasing}
 use Rattle.moves.specs.CopyOffers.{copyOffers}
 
 -- What is said of a part of a process, said of the whole.
-part-every : {at at′ : ℕ} {P P′ : Process} → Part at P at′ P′ → {xs : List Acting} → Every (Inside at′ P′) xs → Every (Inside at P) xs
-part-every part every = every-map (λ a e. part-inside (a .place) part e) every
-
 part-lower : {at at′ : ℕ} {P P′ : Process} {xs : List Acting} → Part at P at′ P′ → Increasing at′ xs → Increasing at xs
 part-lower part h = increasing-lower (omega (arith, part .behind)) h
 

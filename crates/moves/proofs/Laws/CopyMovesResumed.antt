@@ -17,12 +17,12 @@ use Rattle.positions.proofs.Laws.Copies.{split-joined, split-at}
 use Rattle.moves.specs.Spot.{Spot, spots, spotsFrom, copiesOf, filter}
 use Rattle.moves.specs.Moves.{Move, inside}
 use Rattle.moves.specs.Step.{modeOf}
-use Rattle.moves.specs.CopyOffers.{copyOffers, inputs, channelOf, takersAt, butOf, pairsOf, pairsFrom, senders, jointWith, moved}
+use Rattle.moves.specs.CopyOffers.{copyOffers, inputs, channelOf, takersAt, butOf, pairsOf, pairsFrom, senders, jointWith, moved, outputs}
 use Rattle.moves.specs.CopyMoves.{groupMoves, copyMoves, laterSpots, copyMovesFrom}
 use Rattle.moves.specs.Resumption.{Resumed, CopyMovesResumed}
 use Rattle.moves.proofs.Laws.MovesSpots.{spots-stand}
 use Rattle.moves.proofs.Laws.CopyMoves.{pairs-flat}
-use Rattle.moves.proofs.Laws.CopyMovesLists.{split-flatMap, split-map, split-parts, outputs-resumed, inputs-resumed}
+use Rattle.moves.proofs.Laws.SplitLists.{split-flatMap, split-map, split-parts, resumed}
 use Rattle.moves.proofs.Laws.CopyMovesOrder.{copy-rising}
 
 -- After a pair come those of its sender with later takers, and then those of later senders.
@@ -45,8 +45,8 @@ module _ (mode : ℕ) (w : Opened) where
       let m = split-flatMap (pairsOf mode w 0) (senders w 0) (split-at before (sym (pairs-flat mode w (senders w 0)) ∙ e)) in
       let a = m .at in
       let (l, b, r, s, f, g) = split-map (λ c. record { sender = a; taker = c }) (takersFrom 0 a) (m .inner) in
-      let sending = outputs-resumed (leaf (public 0)) (copy-rising 0 _ w) (m .outer) in
-      let taking = inputs-resumed (channelOf a) (copy-rising (butOf mode a) (takersAt mode w a) w) (butOf mode a) s in
+      let sending = resumed (outputs 0) (leaf (public 0)) 0 (copy-rising 0 _ w) (m .outer) .0 in
+      let taking = resumed (inputs 0 (butOf mode a)) (channelOf a) 0 (copy-rising (butOf mode a) (takersAt mode w a) w) s .1 in
       subst (λ v. pairsFrom mode w (v .taker .place + 1) (senders w (v .sender .place)) ≡ after) (sym f)
       (pairs-left b sending taking ∙ ap (λ u. u ++ flatMap (pairsOf mode w 0) (m .post)) (sym g) ∙ sym (m .follows))
 

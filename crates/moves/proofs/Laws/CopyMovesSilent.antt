@@ -2,28 +2,24 @@
 use Prim.Native.Nat.{ℕ}
 use mathlib.Core.Path.{sym, _∙_}
 use mathlib.Core.Logic.{inl, inr}
-use mathlib.Core.List.{List, [], _∷_, flatMap}
-use Rattle.meaning.specs.Places.{Every, none, _also_}
+use mathlib.Core.List.{List, flatMap}
+use Rattle.meaning.specs.Places.{Every}
 use Rattle.meaning.proofs.Every.{every-split}
 use Rattle.positions.specs.Located.{Acting}
 use Rattle.positions.specs.Joint.{Pair, matching, Joint}
 use Rattle.positions.proofs.Laws.Copies.{split-joined, split-at}
-use Rattle.positions.proofs.Laws.Everywhere.{every-mapped, every-flatMap}
+use Rattle.positions.proofs.Laws.Everywhere.{every-mapped, every-flatMap, everywhere}
 use Rattle.moves.specs.Spot.{Spot, spots, offersOf}
 use Rattle.moves.specs.Moves.{Move, inside, between, others, takers, meetings}
 use Rattle.moves.specs.CopyMoves.{copyMoves}
 use Rattle.moves.specs.Resumption.{SilentMovesResumed}
 use Rattle.moves.proofs.Laws.CopyMoves.{silentMoves-parts}
-use Rattle.moves.proofs.Laws.CopyMovesLists.{split-parts}
+use Rattle.moves.proofs.Laws.SplitLists.{split-parts}
 use Rattle.moves.proofs.Laws.CopyMovesResumed.{copyMovesResumed}
 
 -- A step of two threads.
 pub data Shared : Move → Type 0 where
   both : (p q : Spot) (v : Pair) → Shared (between p q v)
-
-pub everywhere : {A : Type 0} {Q : A → Type 0} → ((x : A) → Q x) → (xs : List A) → Every Q xs
-everywhere h [] = none
-everywhere h (x ∷ xs) = h x also everywhere h xs
 
 takers-shared : (p : Spot) (a : Acting) (qs : List Spot) → Every Shared (takers p a qs)
 unfolding takers

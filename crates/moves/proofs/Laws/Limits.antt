@@ -2,10 +2,9 @@
 -- meet no limit again ("Judging and its count"). Assumes nothing.
 use Prim.Native.Nat.{ℕ, _≤_}
 use native.Mathlib.Omega.{arith}
-use mathlib.Core.Path.{_≡_, ap, _∙_}
-use mathlib.Core.Bool.{Bool, false, _||_}
-use mathlib.Core.List.{List, [], _∷_}
-use borrow.Author.Tests.{not-true}
+use mathlib.Core.Path.{ap, _∙_}
+use mathlib.Core.Bool.{Bool, _||_}
+use mathlib.Core.List.{List, map, flatMap}
 use Rattle.meaning.specs.Messages.Term.{Message}
 use Rattle.meaning.specs.Places.{Every, none, _also_}
 use Rattle.meaning.specs.Steps.State.{Thread, act, repl, names, settle}
@@ -16,33 +15,24 @@ use Rattle.meaning.proofs.Steps.Invariant.Settling.{bound-later, settled-below}
 use Rattle.states.specs.Record.{Placed, processOf, boundOf}
 use Rattle.states.specs.Place.{restAt}
 use Rattle.positions.specs.Located.{Acting}
-use Rattle.positions.specs.Joint.{Pair, Joint}
+use Rattle.positions.specs.Joint.{Pair, Joint, matching}
 use Rattle.positions.specs.Rebuilt.{restOf}
-use Rattle.positions.proofs.Laws.Everywhere.{every-and, every-mapped, every-flatMap, every-matching}
+use Rattle.positions.proofs.Laws.Everywhere.{every-mapped, every-flatMap, every-matching}
 use Rattle.moves.specs.Spot.{Spot, spots, offersOf}
 use Rattle.moves.specs.Moves.{Move, alone, inside, between, offered, labelledMoves, others, takers, meetings, silentMoves}
-use Rattle.moves.specs.Outcome.{same, boundAfter, senderRest, takerRest, replacedIn, outcome}
+use Rattle.moves.specs.Outcome.{boundAfter, senderRest, takerRest, replacedIn, outcome}
 use Rattle.moves.specs.Threads.{Judged}
 use Rattle.moves.specs.Limits.{restOver, EveryMove, LimitsJudged, JudgedOn}
 use Rattle.moves.proofs.Laws.LimitsLeft.{Clear, clear-later, AllClear, settled-stored, rest-small}
 use Rattle.moves.proofs.Laws.LimitsReplaced.{Replaces, replaces}
 use Rattle.moves.proofs.Laws.LimitsPairs.{pair-opens}
 use Rattle.moves.proofs.Laws.LimitsJoints.{stepped, Joins, joins}
-use Rattle.moves.proofs.Laws.LimitsSpots.{every-filter, every-spot, Put, put-one, PutBoth, put-two}
+use Rattle.moves.proofs.Laws.LimitsSpots.{Put, put-one, PutBoth, clear-parts, put-left, put-right}
 use Rattle.moves.proofs.Laws.LimitsOutcome.{Follows, follows-limits, follows-goes, settled-over, bound-after, alias-after}
 use Rattle.moves.proofs.Laws.LimitsOutcome.{bound-small, alias-small, met-follows}
-
--- What holds of every element from k on holds of each from k on.
-every-later : {A : Type 0} {Q : ℕ → A → Type 0} {k : ℕ} (xs : List A) → ((j : ℕ) → k ≤ j → Every (Q j) xs)
-    → Every (λ x. (j : ℕ) → k ≤ j → Q j x) xs
-every-later {A} {Q} [] h = none
-every-later {A} {Q} (x ∷ xs) h = (λ j l. first (h j l)) also every-later xs (λ j l. later (h j l))
-  where
-    first : {j : ℕ} → Every (Q j) (x ∷ xs) → Q j x
-    first (q also qs) = q
-
-    later : {j : ℕ} → Every (Q j) (x ∷ xs) → Every (Q j) xs
-    later (q also qs) = qs
+use Rattle.moves.proofs.Laws.MovesLists.{every-filter}
+use Rattle.moves.proofs.Laws.MovesSpots.{Stands, spots-stand, leftOf, rightOf}
+use Rattle.moves.proofs.Laws.MovesOthers.{others-are}
 
 -- A thread of a state is that of a settled process.
 alone-settled : {k : ℕ} (t : Thread) → Clear k t → Every (Clear k) (settle (processOf t) (boundOf t) 0)
@@ -60,8 +50,8 @@ module _ (ps : List Placed) (k : ℕ) (x : Message) (judged : Every (Judged k) p
   all-clear : (j : ℕ) → k ≤ j → AllClear j ps
   all-clear j le = every-map (λ t h. clear-later le (t .thread) (record { stored = h .stored; free = h .free; small = h .small })) judged
 
-  clear-spots : Every (λ p. Clear k (p .thread .thread)) (spots ps)
-  clear-spots = every-map (λ p h. record { stored = h .stored; free = h .free; small = h .small }) (every-spot [] judged)
+  own-clear : (p : Spot) → Stands ps p → Clear k (p .thread .thread)
+  own-clear p h = clear-parts p h (all-clear k (omega arith)) .1
 
   replaced-spot : (p : Spot) (m : ℕ) → k ≤ m → Clear k (p .thread .thread) → Every (Offered p m) (offersOf (p .thread) m)
   replaced-spot p m le c = replaces _ _ _ 0 m (alone-settled (p .thread .thread) (clear-later le (p .thread .thread) c))
@@ -113,29 +103,36 @@ module _ (ps : List Placed) (k : ℕ) (x : Message) (judged : Every (Judged k) p
   labelled-ends : Stored k x → (output : Bool) (c : Message) → Every Ends (labelledMoves output c k ps)
   unfolding labelledMoves offered
   labelled-ends stored output c =
-      every-flatMap _ (every-map (λ p (put, clear).
-      every-mapped (alone p) (every-filter _ (every-map (λ a r e. ends-alone stored p a r put) (replaced-spot p k (omega arith) clear))))
-      (every-and (every-later (spots ps) (λ j le. put-one j ps (all-clear j le))) clear-spots))
+      every-flatMap _ (every-map (λ p h.
+      every-mapped (alone p) (every-filter _ (every-map (λ a r e. ends-alone stored p a r (λ j le. put-one p h (all-clear j le)))
+      (replaced-spot p k (omega arith) (own-clear p h))))) (spots-stand ps))
 
-  taken-ends : (p : Spot) (a : Acting) → Offered p k a
-      → Every (λ q. (j : ℕ) → k ≤ j → same p q ≡ false → PutBoth j (spots ps) p q) (spots ps) → Every Ends (takers p a (others p (spots ps)))
-  unfolding takers others
-  taken-ends p a r puts =
-      every-flatMap _ (every-filter _ (every-map (λ q (put, clear) e.
-      every-mapped (between p q) (every-flatMap _ (every-map (λ c s.
-      every-matching a c (ends-between p q a c r s (λ j le. put j le (not-true _ e)))) (replaced-spot q (a .next) (r .opens .later) clear))))
-      (every-and puts clear-spots)))
+  met-ends : (p q : Spot) (a : Acting) → Offered p k a → ((j : ℕ) → k ≤ j → PutBoth j (spots ps) p q) → Clear k (q .thread .thread)
+      → Every Ends (map (between p q) (flatMap (matching a) (offersOf (q .thread) (a .next))))
+  met-ends p q a r put clear =
+      every-mapped (between p q) (every-flatMap _ (every-map (λ c s. every-matching a c (ends-between p q a c r s put))
+      (replaced-spot q (a .next) (r .opens .later) clear)))
+
+  taken-ends : (p : Spot) (a : Acting) → Stands ps p → Offered p k a → Every Ends (takers p a (others p (spots ps)))
+  unfolding takers
+  taken-ends p a h r =
+      let (before, own, behind) = clear-parts p h (all-clear k (omega arith)) in
+      rw (others-are ps p h)
+      (every-flatMap _ (every-joined
+      (every-mapped (leftOf p) (every-map (λ q s.
+      met-ends p (leftOf p q) a r (λ j le. put-left p h (all-clear j le) q s) (clear-parts q s before .1)) (spots-stand (p .before))))
+      (every-mapped (rightOf p) (every-map (λ q s.
+      met-ends p (rightOf p q) a r (λ j le. put-right p h (all-clear j le) q s) (clear-parts q s behind .1)) (spots-stand (p .behind))))))
 
   silent-ends : Every Ends (silentMoves k ps)
   unfolding silentMoves meetings
   silent-ends =
       every-joined
-      (every-flatMap _ (every-map (λ p (put, clear).
-      every-mapped (inside p) (every-map (λ w h. ends-inside p w h put) (joins _ _ _ 0 k (alone-settled (p .thread .thread) clear))))
-      (every-and (every-later (spots ps) (λ j le. put-one j ps (all-clear j le))) clear-spots)))
-      (every-flatMap _ (every-map (λ p (puts, clear).
-      every-flatMap _ (every-map (λ a r. taken-ends p a r (every-later (spots ps) puts)) (replaced-spot p k (omega arith) clear)))
-      (every-and (every-later (spots ps) (λ j le. put-two j ps (all-clear j le))) clear-spots)))
+      (every-flatMap _ (every-map (λ p h.
+      every-mapped (inside p) (every-map (λ w u. ends-inside p w u (λ j le. put-one p h (all-clear j le)))
+      (joins _ _ _ 0 k (alone-settled (p .thread .thread) (own-clear p h))))) (spots-stand ps)))
+      (every-flatMap _ (every-map (λ p h.
+      every-flatMap _ (every-map (λ a r. taken-ends p a h r) (replaced-spot p k (omega arith) (own-clear p h)))) (spots-stand ps)))
 
   ends : Stored k x → EveryMove Ends k ps
   ends stored = (labelled-ends stored, silent-ends)

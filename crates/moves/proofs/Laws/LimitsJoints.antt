@@ -10,14 +10,14 @@ use Rattle.meaning.specs.Steps.State.{Bound, Thread, repl, names, settle}
 use Rattle.meaning.proofs.Every.{every-map, every-joined, every-parts}
 use Rattle.states.specs.Place.{rightAt}
 use Rattle.states.specs.Record.{Placed}
-use Rattle.positions.specs.Located.{inside}
-use Rattle.positions.specs.Joint.{Pair, copyPairs, Joint, joints}
-use Rattle.positions.specs.Rebuilt.{alone, replacedAt, leftAt}
-use Rattle.positions.proofs.Laws.Located.{left-only, right-only}
-use Rattle.positions.proofs.Laws.Joint.{joints-inside}
+use Rattle.positions.specs.Located.{inside, replacedAs}
+use Rattle.positions.specs.Joint.{Pair, copyPairs, Joint, joints, leftAs}
+use Rattle.positions.specs.Rebuilt.{alone, replacedAt, leftAt, placedAt}
+use Rattle.positions.proofs.Laws.Located.{left-only, right-only, replaced-repl, replaced-copy}
 use Rattle.positions.proofs.Laws.Everywhere.{every-and, every-mapped, every-flatMap, every-matching}
 use Rattle.positions.proofs.Laws.Leads.{Said, said, Cases, by-cases}
-use Rattle.positions.proofs.Laws.Rebuilt.{replacedAt-outside, replacedAt-repl, replacedAt-copy}
+use Rattle.positions.proofs.Laws.Rebuilt.{replacedAt-outside}
+use Rattle.positions.proofs.Laws.Copies.{joints-inside}
 use Rattle.moves.proofs.Laws.LimitsLeft.{Clear, all-later, clear-later, clear-copy}
 use Rattle.moves.proofs.Laws.LimitsLeft.{Left, left-joined, left-behind, left-before, settled-clear}
 use Rattle.moves.proofs.Laws.LimitsReplaced.{opens-before, replaces}
@@ -51,16 +51,16 @@ module _ (P : Process) (at : ℕ) (ρ : Bound) (n k : ℕ) (c : Clear k (repl ρ
   in-copy later w i h = record {
     opens = pair-before later (w .pair) (h .opens);
     left = λ zx zy j le.
-        rw (replacedAt-copy (stepped w zx zy) at ρ n k (w .place) P i)
+        rw (replaced-copy placedAt (stepped w zx zy) at ρ n k (w .place) P i)
         (left-behind (clear-later (omega (arith, h .opens .later)) (repl ρ P) c also none) (h .left zx zy j le));
   }
 
   in-one : k ≤ names P ρ k → (w : Pair) → Meets P (at + 1) ρ k (names P ρ k) w → Joins (Process.repl P) at ρ n k (own false w)
-  unfolding leftAt
+  unfolding leftAs
   in-one later w h = record {
     opens = pair-before later w (h .opens);
     left = λ zx zy j le.
-        rw (replacedAt-repl (stepped (own false w) zx zy) at ρ n k P)
+        rw (replaced-repl placedAt (stepped (own false w) zx zy) at ρ n k P)
         (left-behind (clear-later (omega (arith, h .opens .later)) (repl ρ P) c also none) (h .left zx zy j le));
   }
 
@@ -84,11 +84,11 @@ module _ (P : Process) (at : ℕ) (ρ : Bound) (n k : ℕ) (c : Clear k (repl ρ
       (replaces P (at + 1) ρ k (names P ρ k) copy))
 
   in-two : (w : Pair) → PairOpens k w → Two w → Joins (Process.repl P) at ρ n k (own true w)
-  unfolding leftAt
+  unfolding leftAs
   in-two w o h = record {
     opens = o;
     left = λ zx zy j le.
-        rw (replacedAt-repl (stepped (own true w) zx zy) at ρ n k P)
+        rw (replaced-repl placedAt (stepped (own true w) zx zy) at ρ n k P)
         (left-behind (clear-later (omega (arith, o .later)) (repl ρ P) c also none) (h zx zy j le));
   }
 
@@ -104,7 +104,7 @@ module _ (P : Process) (at : ℕ) (ρ : Bound) (n k : ℕ) (c : Clear k (repl ρ
       (every-mapped (own true) (every-map (λ w (o, t). in-two w o t) two-pairs))
 
 joins-cases : Cases (λ P at ρ n. (k : ℕ) → Every (Clear k) (settle P ρ n) → Every (Joins P at ρ n k) (joints P at ρ n k))
-unfolding said joints settle replacedAt
+unfolding said joints settle replacedAs
 joins-cases = record {
   lead = λ l h k c.
       rw (ap (λ s. s .jointly k) (l .same))

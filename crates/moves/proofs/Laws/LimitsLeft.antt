@@ -19,8 +19,8 @@ use Rattle.walks.specs.Settled.{settledAt}
 use Rattle.walks.proofs.Laws.Counting.{over-repl}
 use Rattle.walks.proofs.Laws.Settling.{settled-threads}
 use Rattle.positions.proofs.Laws.Everywhere.{every-and}
-use Rattle.walks.specs.Visit.{BoundSmall}
-use Rattle.walks.proofs.Laws.Small.{ThreadSmall, settled-small}
+use Rattle.forms.specs.Visit.{BoundSmall}
+use Rattle.forms.proofs.Laws.Small.{ThreadSmall, settled-small}
 
 -- What a thread offers meets no limit, copies being opened at k, its private names are below k, and its messages are small.
 pub record Clear (k : ℕ) (t : Thread) : Type 0 where

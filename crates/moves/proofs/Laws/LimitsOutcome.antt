@@ -1,6 +1,7 @@
 -- The limits that an outcome is over, from those that its settled rests are over ("Judging and its count"). Assumes nothing.
 use Prim.Native.Nat.{ℕ, _+_, _≤_}
 use native.Mathlib.Omega.{arith}
+use native.Mathlib.Nat.{le-refl}
 use mathlib.Core.Path.{_≡_, refl, sym, _∙_, ap, ap₂}
 use mathlib.Core.Bool.{Bool, true, false, _||_, or-true}
 use mathlib.Core.List.{List, [], _∷_, _++_}
@@ -11,25 +12,25 @@ use Rattle.meaning.specs.Messages.Term.{Message, nodes}
 use Rattle.meaning.specs.Bytes.Process.{Prefix, output, input, Process}
 use Rattle.meaning.specs.Places.{Every, none, _also_}
 use Rattle.meaning.specs.Steps.State.{Bound, _▸_, Thread, act, repl, names, settle, State}
-use Rattle.meaning.specs.Steps.Invariant.{Stored, BoundStored, ThreadStored}
+use Rattle.meaning.specs.Steps.Invariant.{Stored, BoundStored}
 use Rattle.meaning.specs.Logic.Truth.{anyOf}
 use Rattle.meaning.specs.Judging.Limits.{overSettling, overPrefix, overOffers, overState, boundNodes, threadNodes}
 use Rattle.meaning.proofs.Test.{neither, passes-none, any-append}
 use Rattle.meaning.proofs.Every.{every-map, every-joined}
 use Rattle.meaning.proofs.Steps.Invariant.Settling.{bound-later, threads-later, worked-below, settled-below}
-use Rattle.meaning.proofs.Judging.Alike.{copiesAlike}
 use Rattle.states.specs.Record.{Placed, boundOf}
 use Rattle.walks.specs.Settled.{settledAt, threadsOf}
 use Rattle.states.specs.Place.{restAt}
-use Rattle.walks.specs.Form.{overArrival}
+use Rattle.forms.specs.Form.{overArrival}
 use Rattle.walks.proofs.Laws.Counting.{any-map}
 use Rattle.walks.proofs.Laws.Settling.{settled-threads}
-use Rattle.positions.specs.Located.{Acting}
+use Rattle.positions.specs.Located.{Acting, prefixed}
 use Rattle.positions.specs.Joint.{Pair, messageOf}
 use Rattle.positions.proofs.Laws.Everywhere.{every-and}
+use Rattle.positions.proofs.Laws.Walking.{any-later}
 use Rattle.moves.specs.Outcome.{Outcome, boundAfter, aliasOf, sentBy, lastOf, senderRest, takerRest, metOutcome, arrivalOf}
 use Rattle.moves.specs.Limits.{pairOver, full, Goes}
-use Rattle.walks.specs.Visit.{BoundSmall}
+use Rattle.forms.specs.Visit.{BoundSmall}
 use Rattle.moves.proofs.Laws.LimitsLeft.{anyOver, AllStored, AllSmall, Left, settled-stored, rest-small}
 use Rattle.moves.proofs.Laws.LimitsPairs.{sent-small, PairOpens}
 
@@ -95,19 +96,11 @@ follows-goes S {x} {o} {r} f x-small = record {
 }
 
 -- A settled rest meets the limits of its threads, at whatever later name.
-any-later : {m j : ℕ} → m ≤ j → {ts : List Thread} → Every (ThreadStored m) ts → anyOf (λ t. overOffers t j) ts ≡ anyOf (λ t. overOffers t m) ts
-unfolding anyOf
-any-later le none = refl
-any-later {m} {j} le (_also_ {x = t} b bs) = ap₂ _||_ (copiesAlike t m j b le) (any-later le bs)
-
 pub settled-over : (P : Process) (at : ℕ) (ρ : Bound) (n j : ℕ) → anyOver j (settledAt P at ρ n) ≡ anyOf (λ t. overOffers t j) (settle P ρ n)
 settled-over P at ρ n j =
     sym (threads-over j (settledAt P at ρ n)) ∙ ap (λ ts. anyOf (λ t. overOffers t j) ts) (settled-threads P at ρ n)
 
 -- The messages that the rest of a thread is settled under, and the new alias.
-abbrev prefixed : Acting → Prefix → Acting
-prefixed a p = record { place = a .place; bound = a .bound; prefix = p; rest = a .rest; next = a .next }
-
 pub bound-after : {k m : ℕ} (x : Message) (a : Acting) → k ≤ m → Stored k x → BoundStored m (a .bound) → BoundStored m (boundAfter x a)
 bound-after {k} {m} x a le s b = of (a .prefix)
   where
@@ -164,7 +157,7 @@ met-follows {k} w ts o left =
       over =
           ap (λ b. overSettling P ρ m || overSettling Q τ n || b)
           (l .over ∙ any-append _ (senderRest w) (takerRest w)
-          ∙ ap₂ _||_ (settled-over P here ρ m j ∙ any-later later′ threads) (settled-over Q there τ n j))
+          ∙ ap₂ _||_ (settled-over P here ρ m j ∙ any-later j n later′ (le-refl n) threads) (settled-over Q there τ n j))
           ∙ crossed (overSettling P ρ m) (overSettling Q τ n) _ _;
       stored = l .stored (every-joined (settled-stored P here ρ m (threads-later later′ threads)) (settled-stored Q there τ n threads′));
       alias = none;

@@ -20,16 +20,16 @@ use Rattle.meaning.proofs.Steps.Invariant.Settling.{bound-later}
 use Rattle.states.specs.Place.{rightAt}
 use Rattle.states.specs.Record.{Placed}
 use Rattle.positions.specs.Located.{Acting, acting, inside}
-use Rattle.positions.specs.Joint.{Pair, actingBut, pairs, messageOf}
-use Rattle.positions.specs.Rebuilt.{bothReplacedAt}
+use Rattle.positions.specs.Joint.{Pair, actingBut, pairs, messageOf, bothReplacedAs}
+use Rattle.positions.specs.Rebuilt.{bothReplacedAt, placedAt}
 use Rattle.positions.proofs.Laws.Located.{Inside, acting-inside, left-only, right-only}
-use Rattle.positions.proofs.Laws.Block.{block-laws}
+use Rattle.positions.proofs.Laws.Block.{block-laws, both-outside}
 use Rattle.positions.proofs.Laws.Everywhere.{every-and, every-flatMap, every-matching}
 use Rattle.positions.proofs.Laws.Leads.{Leads, Said, said, Cases, by-cases}
-use Rattle.positions.proofs.Laws.Rebuilt.{both-second, both-neither, both-first}
+use Rattle.positions.proofs.Laws.Rebuilt.{both-neither, both-first}
 use Rattle.moves.specs.Outcome.{sentBy}
-use Rattle.walks.specs.Visit.{BoundSmall}
-use Rattle.walks.proofs.Laws.Small.{worked-small}
+use Rattle.forms.specs.Visit.{BoundSmall}
+use Rattle.forms.proofs.Laws.Small.{worked-small}
 use Rattle.moves.proofs.Laws.LimitsLeft.{Clear, all-later, Left, left-joined, left-swapped, left-behind, left-before, settled-clear}
 use Rattle.moves.proofs.Laws.LimitsReplaced.{Opens, replaces}
 
@@ -90,7 +90,7 @@ module _ (P Q : Process) (at : ℕ) (ρ : Bound) (n k : ℕ) (p : Every (Clear k
       → Left j zx (bothReplacedAt (a .place) zx y zy R at′ ρ n′ k m)
 
   takers-left : Inside (at + 1) P a → k ≤ a .next → First P (at + 1) n → Takers P (at + 1) ρ n k a → Takers (Process.par P Q) at ρ n k a
-  unfolding bothReplacedAt actingBut
+  unfolding bothReplacedAs actingBut
   takers-left i later f e m le =
       let at′ = rightAt at P in
       let n′ = names P ρ n in
@@ -103,13 +103,13 @@ module _ (P Q : Process) (at : ℕ) (ρ : Bound) (n k : ℕ) (p : Every (Clear k
       (every-and (e m le) (but-every (a .place) P (at + 1) ρ n m (acting-inside P (at + 1) ρ n m))))
       (rw others
       (every-map (λ c (r, i′) zx zy j l l′.
-      rw (both-second (a .place) zx (c .place) zy Q at′ ρ n′ k m out)
+      rw (both-outside placedAt (a .place) zx (c .place) zy Q at′ ρ n′ k m out)
       (left-joined (f zx (c .place) zy m j l (right-only (c .place) at P Q i′)) (r .left zy j l′)))
       (every-and (replaces Q at′ ρ n′ m (all-later le q)) (acting-inside Q at′ ρ n′ m))))
 
   takers-right : Inside (rightAt at P) Q a → k ≤ a .next → First Q (rightAt at P) (names P ρ n)
       → Takers Q (rightAt at P) ρ (names P ρ n) k a → Takers (Process.par P Q) at ρ n k a
-  unfolding bothReplacedAt actingBut
+  unfolding bothReplacedAs actingBut
   takers-right i later f e m le =
       let at′ = rightAt at P in
       let n′ = names P ρ n in
@@ -118,7 +118,7 @@ module _ (P Q : Process) (at : ℕ) (ρ : Bound) (n k : ℕ) (p : Every (Clear k
       every-joined {xs = actingBut (a .place) P (at + 1) ρ n m}
       (rw others
       (every-map (λ c (r, i′) zx zy j l l′.
-      rw (both-second (a .place) zx (c .place) zy P (at + 1) ρ n k m out)
+      rw (both-outside placedAt (a .place) zx (c .place) zy P (at + 1) ρ n k m out)
       (left-swapped zy zx (left-joined (r .left zy j l′) (f zx (c .place) zy m j l (left-only (c .place) at P Q i′)))))
       (every-and (replaces P (at + 1) ρ n m (all-later le p)) (acting-inside P (at + 1) ρ n m))))
       (every-map (λ c (h, i′) zx zy j l l′.

@@ -15,13 +15,13 @@ use Rattle.meaning.specs.Judging.Limits.{overPrefix, overOffers}
 use Rattle.meaning.proofs.Every.{every-map, every-joined, every-parts}
 use Rattle.states.specs.Place.{rightAt}
 use Rattle.states.specs.Record.{Placed}
-use Rattle.positions.specs.Located.{Acting, acting}
-use Rattle.positions.specs.Rebuilt.{replacedAt}
-use Rattle.positions.proofs.Laws.Located.{acting-inside, left-only, right-only}
+use Rattle.positions.specs.Located.{Acting, acting, replacedAs}
+use Rattle.positions.specs.Rebuilt.{replacedAt, placedAt}
+use Rattle.positions.proofs.Laws.Located.{acting-inside, left-only, right-only, replaced-act, replaced-copy}
 use Rattle.positions.proofs.Laws.Everywhere.{every-and}
 use Rattle.positions.proofs.Laws.Leads.{Said, said, Cases, by-cases}
-use Rattle.positions.proofs.Laws.Rebuilt.{replacedAt-outside, replacedAt-act, replacedAt-copy}
-use Rattle.walks.specs.Visit.{BoundSmall}
+use Rattle.positions.proofs.Laws.Rebuilt.{replacedAt-outside}
+use Rattle.forms.specs.Visit.{BoundSmall}
 use Rattle.moves.proofs.Laws.LimitsLeft.{Clear, all-later, clear-later, clear-copy}
 use Rattle.moves.proofs.Laws.LimitsLeft.{Left, left-whole, left-behind, left-before, settled-clear}
 
@@ -45,7 +45,7 @@ pub record Replaces (P : Process) (at : ℕ) (ρ : Bound) (n k : ℕ) (a : Actin
   pub left : (z : List Placed) (j : ℕ) → a .next ≤ j → Left j z (replacedAt (a .place) z P at ρ n k)
 
 replaces-cases : Cases (λ P at ρ n. (k : ℕ) → Every (Clear k) (settle P ρ n) → Every (Replaces P at ρ n k) (acting P at ρ n k))
-unfolding said acting settle replacedAt
+unfolding said acting settle replacedAs
 replaces-cases = record {
   lead = λ l h k c.
       rw (ap (λ s. s .offers k) (l .same))
@@ -77,7 +77,7 @@ replaces-cases = record {
         → Replaces (Process.act p P) at ρ n k (record { place = at; bound = ρ; prefix = p; rest = P; next = k })
     in-action p P at ρ n k (c also cs) = record {
       opens = record { later = le-refl k; stored = c .stored; small = c .small; allowed = own-allowed ρ p P k (c .free) };
-      left = λ z j le. rw (replacedAt-act z at ρ n k p P) left-whole;
+      left = λ z j le. rw (replaced-act placedAt z at ρ n k p P) left-whole;
     }
 
     in-copy : (P : Process) (at : ℕ) (ρ : Bound) (n : ℕ)
@@ -89,7 +89,7 @@ replaces-cases = record {
         every-map (λ a (r, i). record {
           opens = opens-before later a (r .opens);
           left = λ z j le.
-              rw (replacedAt-copy z at ρ n k (a .place) P i)
+              rw (replaced-copy placedAt z at ρ n k (a .place) P i)
               (left-behind (clear-later (omega (arith, r .opens .later)) (repl ρ P) c also none) (r .left z j le));
         }) (every-and (h k (names P ρ k) copy) (acting-inside P (at + 1) ρ k (names P ρ k)))
 

@@ -19,7 +19,7 @@ use Rattle.states.specs.Place.{restAt}
 use Rattle.states.specs.Record.{Placed, processOf, boundOf}
 use Rattle.walks.specs.Settled.{threadsOf}
 use Rattle.walks.proofs.Laws.Settling.{settled-threads}
-use Rattle.positions.specs.Located.{Acting}
+use Rattle.positions.specs.Located.{Acting, prefixed}
 use Rattle.positions.specs.Rebuilt.{restOf}
 use Rattle.positions.specs.Sought.{wanted}
 use Rattle.positions.proofs.Laws.Located.{located}
@@ -65,9 +65,6 @@ module _ (ps : List Placed) (k : ℕ) (b : Bool) (y : Message) (f : Offer → Li
       ∙ flatMap-filter (wanted (labelled b) y) _ (λ a. g (alone p a)) (e p h) (offersOf (p .thread) k)
       ∙ sym (map-map g (alone p) (filter (wanted (labelled b) y) (offersOf (p .thread) k)))) (spots-stand ps))
       ∙ sym (map-flatMap g _ (spots ps))
-
-abbrev pub prefixed : Acting → Prefix → Acting
-prefixed a q = record { place = a .place; bound = a .bound; prefix = q; rest = a .rest; next = a .next }
 
 -- An offer on the channel of the label.
 module _ (y : Message) (a : Acting) where

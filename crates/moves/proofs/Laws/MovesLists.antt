@@ -31,9 +31,24 @@ module _ {A B : Type 0} where
   flatMap-filter test f g e (x ∷ xs) =
       ap₂ _++_ (e x) (flatMap-filter test f g e xs) ∙ tested (λ u v. u ++ map g (filter test xs) ≡ map g v) (test x) refl refl
 
-  pub every-mapped : {P : B → Type 0} (f : A → B) {xs : List A} → Every (λ x. P (f x)) xs → Every P (map f xs)
-  every-mapped f none = none
-  every-mapped f (p also ps) = p also every-mapped f ps
+-- A list for each of those elements that pass a test.
+pub flatMap-kept : {A B : Type 0} (test : A → Bool) (f g : A → List B) → ((x : A) → g x ≡ elim (test x) [ true ↦ f x | false ↦ [] ])
+    → (xs : List A) → flatMap f (filter test xs) ≡ flatMap g xs
+unfolding flatMap filter
+flatMap-kept test f g e [] = refl
+flatMap-kept test f g e (x ∷ xs) =
+    tested (λ u v. flatMap f u ≡ v ++ flatMap f (filter test xs)) (test x) refl refl
+    ∙ ap₂ _++_ (sym (e x)) (flatMap-kept test f g e xs)
+
+-- What holds of every element that passes a test.
+pub every-filter : {A : Type 0} {Q : A → Type 0} (test : A → Bool) {xs : List A} → Every (λ x. test x ≡ true → Q x) xs → Every Q (filter test xs)
+unfolding filter
+every-filter test none = none
+every-filter {Q = Q} test (_also_ {x = x} {xs = xs} h hs) = by-test (every-filter test hs) (test x) refl
+  where
+    by-test : Every Q (filter test xs) → (b : Bool) → test x ≡ b → Every Q (elim b [ true ↦ x ∷ filter test xs | false ↦ filter test xs ])
+    by-test r true e = h e also r
+    by-test r false e = r
 
 module _ {A : Type 0} (test : A → Bool) where
   pub filter-append : (xs ys : List A) → filter test (xs ++ ys) ≡ filter test xs ++ filter test ys

@@ -11,8 +11,9 @@ use Rattle.meaning.proofs.Every.{every-map}
 use Rattle.states.specs.Record.{Placed}
 use Rattle.moves.specs.Spot.{Spot, spots, spotsFrom, filter}
 use Rattle.moves.specs.Moves.{others}
-use Rattle.moves.proofs.Laws.MovesLists.{every-mapped, filter-append, filter-all}
+use Rattle.moves.proofs.Laws.MovesLists.{filter-append, filter-all}
 use Rattle.moves.proofs.Laws.MovesSpots.{Stands, spots-stand, leftOf, rightOf}
+use Rattle.positions.proofs.Laws.Everywhere.{every-mapped}
 
 -- The spots of two lists, one after the other.
 abbrev followed : List Placed → Spot → Spot

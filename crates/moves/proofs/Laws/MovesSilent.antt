@@ -16,14 +16,15 @@ use Rattle.meaning.proofs.Steps.Enumeration.Silent.{silents-among}
 use Rattle.states.specs.Record.{Placed}
 use Rattle.walks.specs.Settled.{threadsOf}
 use Rattle.walks.proofs.Laws.Settling.{settled-threads}
-use Rattle.positions.specs.Located.{Acting}
-use Rattle.positions.specs.Joint.{Pair, matching, Joint, met}
+use Rattle.positions.specs.Located.{Acting, prefixed}
+use Rattle.positions.specs.Joint.{Pair, matching, Joint, met, pairOf}
 use Rattle.positions.specs.Rebuilt.{leftAt}
 use Rattle.positions.specs.Rebuilt as rebuilt
 use Rattle.positions.proofs.Laws.Located.{located}
 use Rattle.positions.proofs.Laws.Block.{flatMap-append, flatMap-map, map-flatMap, flatMap-every}
 use Rattle.positions.proofs.Laws.Pairs.{Places}
 use Rattle.positions.proofs.Laws.Rebuilt.{left-threads}
+use Rattle.positions.proofs.Laws.Joint.{jointly}
 use Rattle.moves.specs.Spot.{Spot, spots, offersOf, jointsOf}
 use Rattle.moves.specs.Moves.{Move, inside, between, others, takers, meetings, silentMoves}
 use Rattle.moves.specs.Outcome.{exchanged, bothExchanged, replacedIn, senderRest, takerRest, metOutcome, outcome, arrivalOf}
@@ -31,8 +32,8 @@ use Rattle.moves.specs.Theorems.{SilentsMoved}
 use Rattle.moves.proofs.Laws.MovesLists.{flatMap-flatMap}
 use Rattle.moves.proofs.Laws.MovesSpots.{cutOf, cuts-spots, Stands, spots-stand, leftOf, rightOf, exchanged-left, exchanged-right}
 use Rattle.moves.proofs.Laws.MovesOthers.{others-are}
-use Rattle.moves.proofs.Laws.MovesThread.{leaves, leavesAt, jointly, offers-thread, offers-spots, joints-spots}
-use Rattle.moves.proofs.Laws.Moves.{threads-around, leaves-threads, exchanged-threads, arrival-same, prefixed}
+use Rattle.moves.proofs.Laws.MovesThread.{leaves, leavesAt, offers-thread, offers-spots, joints-spots}
+use Rattle.moves.proofs.Laws.Moves.{threads-around, leaves-threads, exchanged-threads, arrival-same}
 
 -- The state that a pair leads to.
 met-arrival : (S : State) (w : Pair) (f : Places) (ts : List Placed) → threadsOf ts ≡ f (threadsOf (senderRest w)) (threadsOf (takerRest w))
@@ -48,9 +49,6 @@ unfolding takers
 takers-append p a xs ys = flatMap-append _ xs ys
 
 -- Two offers that meet where the pair of them leads to a state.
-abbrev pairOf : Acting → Acting → Pair
-pairOf a b = record { sender = a; taker = b }
-
 module _ (S : State) (arrange : Places) (f g : ℕ → List Thread → List Thread) (F : Pair → Arrival) where
   abbrev Leads : Acting → Acting → Type 0
   Leads a b = metArrival S (met (pairOf a b) (λ x y. arrange (f (a .place) x) (g (b .place) y))) ≡ F (pairOf a b)

@@ -34,6 +34,12 @@ pub cuts-spots : {B : Type 0} (f : Cut Thread → List B) (ps : List Placed)
     → flatMap f (cuts (threadsOf ps)) ≡ flatMap (λ p. f (cutOf p)) (spots ps)
 cuts-spots f ps = cuts-over f (threadsOf ps) ∙ over-spots f [] ps
 
+-- What holds of every thread.
+pub every-spot : {Q : Placed → Type 0} (ls : List Placed) {ts : List Placed} → Every Q ts → Every (λ p. Q (p .thread)) (spotsFrom ls ts)
+unfolding spotsFrom
+every-spot ls none = none
+every-spot ls (q also qs) = q also every-spot _ qs
+
 -- Each is a part of the list.
 pub record Stands (ps : List Placed) (p : Spot) : Type 0 where
   pub parts : ps ≡ p .before ++ (p .thread ∷ p .behind)

@@ -2,13 +2,13 @@
 use Prim.Native.Nat.{ℕ, _+_}
 use mathlib.Core.Path.{_≡_, refl, sym, _∙_, ap, ap₂, fun-ext}
 use mathlib.Core.Bool.{true}
-use mathlib.Core.List.{List, [], _∷_, _++_, map, map-map, map-id, append-nil, flatMap}
+use mathlib.Core.List.{List, [], _∷_, _++_, map, map-map, append-nil, flatMap}
 use borrow.Author.Tests.{eq-eqb}
 use Rattle.meaning.specs.Bytes.Process.{Prefix, Process}
 use Rattle.meaning.specs.Places.{Every, none, _also_}
 use Rattle.meaning.specs.Steps.State.{Bound, Thread, act, repl, names, settle}
 use Rattle.meaning.specs.Steps.Offer.{placed, opened}
-use Rattle.meaning.specs.Steps.Silent.{Meeting, meeting, framed}
+use Rattle.meaning.specs.Steps.Silent.{Meeting, framed}
 use Rattle.meaning.specs.Steps.Enumeration.{cuts, offers, pairsAt, silentOf, silents, offersOf as threadOffers}
 use Rattle.meaning.proofs.Every.{every-map}
 use Rattle.meaning.proofs.Steps.Enumeration.Cuts.{around, among}
@@ -17,10 +17,10 @@ use Rattle.meaning.proofs.Steps.Enumeration.Silent.{silents-among}
 use Rattle.states.specs.Record.{Placed, processOf, boundOf}
 use Rattle.walks.specs.Settled.{threadsOf}
 use Rattle.positions.specs.Located.{acting, inside, replaced}
-use Rattle.positions.specs.Joint.{Pair, matching, actingBut, pairs, Joint, bothReplaced, left, met}
+use Rattle.positions.specs.Joint.{Pair, matching, actingBut, pairs, bothReplaced, met}
 use Rattle.positions.proofs.Laws.Located.{offers-none, offers-one, located, acting-inside, offersLocated}
 use Rattle.positions.proofs.Laws.Block.{flatMap-every}
-use Rattle.positions.proofs.Laws.Joint.{silentsLocated}
+use Rattle.positions.proofs.Laws.Joint.{silentsLocated, jointly, joints-one}
 use Rattle.moves.specs.Spot.{Spot, spots, offersOf, jointsOf}
 use Rattle.moves.proofs.Laws.MovesLists.{flatMap-none}
 use Rattle.moves.proofs.Laws.MovesSpots.{cutOf, cuts-spots}
@@ -41,9 +41,6 @@ offers-thread k t =
     ∙ offersLocated (processOf (t .thread)) (t .place) (boundOf (t .thread)) 0 k
 
 -- Its silent steps. It makes no pair by itself.
-abbrev pub jointly : (ℕ → List Thread → List Thread) → Joint → Meeting
-jointly f w = met (w .pair) (λ x y. f (w .place) (left w x y ++ (repl (w .bound) (w .copied) ∷ [])))
-
 own-place : (p : Prefix) (P : Process) (at : ℕ) (ρ : Bound) (j : ℕ) → actingBut at (Process.act p P) at ρ 0 j ≡ []
 unfolding actingBut
 own-place p P at ρ j = rw (eq-eqb at at refl, actingBut)
@@ -70,11 +67,7 @@ no-pairs-listed k t =
 silents-one : (k : ℕ) (t : Thread) → silents k (t ∷ []) ≡ silentOf t k
 unfolding among cuts flatMap
 silents-one k t =
-    silents-among k (t ∷ []) ∙ ap (λ r. among framed silentOf k (t ∷ []) ++ r) (no-pairs-listed k t) ∙ append-nil _ ∙ append-nil _
-    ∙ ap (λ f. map f (silentOf t k)) (fun-ext each) ∙ map-id (silentOf t k)
-  where
-    each : (w : Meeting) → framed (λ x. x ++ []) w ≡ w
-    each (meeting ρ M P σ Q f n) = ap (λ g. meeting ρ M P σ Q g n) (fun-ext λ x. fun-ext λ y. append-nil (f x y))
+    silents-among k (t ∷ []) ∙ ap (λ r. among framed silentOf k (t ∷ []) ++ r) (no-pairs-listed k t) ∙ append-nil _ ∙ joints-one k t
 
 pub silent-thread : (k : ℕ) (t : Placed) → silentOf (t .thread) k ≡ map (jointly (leaves k t)) (jointsOf t k)
 silent-thread k t =

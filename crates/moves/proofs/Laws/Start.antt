@@ -17,15 +17,15 @@ use Rattle.meaning.proofs.Every.{every-map}
 use Rattle.meaning.proofs.Steps.Invariant.Settling.{settled-below}
 use Rattle.states.specs.Record.{Placed}
 use Rattle.walks.specs.Settled.{threadsOf}
-use Rattle.walks.specs.Form.{StateAt, overArrival}
+use Rattle.forms.specs.Form.{StateAt, overArrival}
 use Rattle.states.specs.declared.state.State as code
 use Rattle.positions.proofs.Laws.Everywhere.{every-and, every-mapped}
 use Rattle.moves.specs.Outcome.{Outcome, arrivalOf}
-use Rattle.walks.specs.Visit.{BoundSmall}
+use Rattle.forms.specs.Visit.{BoundSmall}
 use Rattle.moves.specs.Threads.{Threads}
 use Rattle.moves.specs.Limits.{Goes}
 use Rattle.moves.specs.Held.{Held, StartHeld, HeldOn}
-use Rattle.walks.proofs.Laws.Small.{ThreadSmall, settled-small}
+use Rattle.forms.proofs.Laws.Small.{ThreadSmall, settled-small}
 use Rattle.moves.proofs.Laws.LimitsLeft.{unmapped}
 use Rattle.moves.proofs.Laws.LimitsOutcome.{light}
 use Rattle.moves.proofs.Laws.Limits.{judgedOn}

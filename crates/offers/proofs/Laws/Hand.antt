@@ -1,9 +1,9 @@
 -- Messages that are copied to where they stay ("Steps"). Assumes nothing.
 use mathlib.Core.Path.{_≡_, sym, subst}
 use mathlib.Core.List.{List, [], _∷_}
-use Prim.Native.Nat.{ℕ, _+_, _-_, _*_, _≤_, _<_}
+use Prim.Native.Nat.{ℕ, _+_, _-_, _*_, _<_}
 use native.Mathlib.Omega.{arith}
-use lib.ListN.{length, take, drop, length-append, length-drop}
+use lib.ListN.{length, take, drop}
 use Rattle.meaning.specs.Messages.Term.{Message}
 use Rattle.meaning.specs.Bytes.Standing.{Stands}
 use Rattle.meaning.proofs.Bytes.Reading.Place.{parts}
@@ -15,20 +15,15 @@ use Rattle.messages.proofs.Laws.Walk.{some-node}
 use Rattle.states.specs.Stored.{Fetched}
 use Rattle.states.specs.Shown.{encodeMessages}
 use Rattle.offers.specs.Hand.{Copies, Hands}
-
--- What stands ends within the slice.
-pub stands-short : {s xs : List ℕ} {at end : ℕ} → Stands s at xs end → 1 ≤ length xs → end ≤ length s
-stands-short {s} {xs} {at} {end} p h =
-    let bytes : length (drop at s) ≡ length xs + length (drop end s) = rw (p .bytes) (length-append xs (drop end s)) in
-    omega (arith, bytes, p .size, length-drop at s, length-drop end s)
+use Rattle.moves.proofs.Laws.Threads.{stands-ends}
 
 pub copies-none : {out to : List ℕ} {from : ℕ} → length out < from → Copies out from 0 to
-copies-none h = record { exact = λ x p k. absurd (omega (arith, stands-short p (omega (arith, runLength x, some-node x)), p .size)) }
+copies-none h = record { exact = λ x p k. absurd (omega (arith, stands-ends p (omega (arith, runLength x, some-node x)), p .size)) }
 
 module _ (out : List ℕ) {from v : ℕ} (z : SizeOf (take (length out - from) (drop from out)) v) where
-  size-of : (x : Message) {end : ℕ} → Stands out from (encodeMessage x) end → 2 * v ≡ length (encodeMessage x)
+  pub size-of : (x : Message) {end : ℕ} → Stands out from (encodeMessage x) end → 2 * v ≡ length (encodeMessage x)
   size-of x p =
-      let n = z .same x (lent p (stands-short p (omega (arith, runLength x, some-node x)))) in omega (arith, n, runLength x)
+      let n = z .same x (lent p (stands-ends p (omega (arith, runLength x, some-node x)))) in omega (arith, n, runLength x)
 
   pub copies-long : {to : List ℕ} → length to < 2 * v → Copies out from 0 to
   copies-long h = record { exact = λ x p k. absurd (omega (arith, size-of x p)) }
@@ -63,7 +58,7 @@ unfolding encodeMessages
 none-handed channel message h = record {
   exact = λ x y p k l.
       let (mid, q, both) = parts (encodeMessage x) (encodeMessages (y ∷ []) ∷ []) p in
-      absurd (omega (arith, stands-short q (omega (arith, runLength x, some-node x)), q .size));
+      absurd (omega (arith, stands-ends q (omega (arith, runLength x, some-node x)), q .size));
 }
 
 pub ruleset hands = (handed, none-handed)

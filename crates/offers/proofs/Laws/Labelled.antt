@@ -1,15 +1,14 @@
 -- The next output or input on the channel of a label ("Steps"). Assumes nothing.
-use mathlib.Core.Path.{_≡_, refl, _∙_, ap}
+use mathlib.Core.Path.{_≡_, refl, sym, _∙_, ap, subst}
 use mathlib.Core.Bool.{Bool, true, false}
-use mathlib.Core.List.{List, [], _∷_, _++_, append-nil}
+use mathlib.Core.List.{List, [], _∷_}
 use Prim.Native.Nat.{ℕ, _+_, _-_, _*_, _≤_, _<_}
 use native.Mathlib.Omega.{arith}
-use lib.ListN.{length, take, drop, length-append, length-drop, length-take}
-use lib.Seq.{paste}
-use Rattle.meaning.specs.Messages.Term.{Message, nodes}
+use lib.ListN.{length, take, drop, drop-of-length-le}
+use Rattle.meaning.specs.Messages.Term.{Message}
 use Rattle.meaning.specs.Bytes.Process.{Prefix, output, input}
 use Rattle.meaning.specs.Bytes.Standing.{Stands}
-use Rattle.meaning.specs.Places.{Every, none, _also_}
+use Rattle.meaning.specs.Places.{Every, _also_}
 use Rattle.meaning.specs.Steps.State.{worked}
 use Rattle.meaning.specs.Judging.Limits.{over}
 use Rattle.meaning.proofs.Test.{neither}
@@ -17,103 +16,84 @@ use Rattle.meaning.proofs.Bytes.Reading.Place.{parts}
 use Rattle.messages.specs.Encoding.{encodeMessage}
 use Rattle.messages.specs.Buffer.{Within}
 use Rattle.messages.specs.Run.{SizeOf}
-use Rattle.messages.proofs.Laws.Buffer.{part, lent, put-within, put-stands}
 use Rattle.messages.proofs.Laws.Encoding.{length-encode}
 use Rattle.messages.proofs.Laws.Walk.{some-node}
 use Rattle.states.specs.Shown.{encodeMessages}
 use Rattle.threads.specs.declared.task.Quest.{Quest}
 use Rattle.states.specs.declared.progress.Progress.{Progress}
 use Rattle.states.specs.declared.state.State.{State}
-use Rattle.states.proofs.Laws.Progress.{to-end}
-use Rattle.positions.specs.Located.{Acting}
+use Rattle.positions.specs.Located.{Acting, prefixed}
 use Rattle.positions.specs.Sought.{wanted, sentBy}
 use Rattle.moves.specs.Spot.{Spot, recordAt}
 use Rattle.moves.specs.Moves.{Move, alone, inside, between, labelled}
-use Rattle.walks.specs.Visit.{Labelled}
-use Rattle.moves.specs.Step.{stepOf}
+use Rattle.forms.specs.Visit.{Labelled}
+use Rattle.moves.specs.Step.{stepOf, runOf, Shown}
 use Rattle.offers.specs.Seek.{Sees, ShowsSight, Seeks}
-use Rattle.offers.specs.Labelled.{labelledFrom, Told, ShowsNext, Follows, NextLabelled, outputStep, inputStep, HandsOver}
+use Rattle.offers.specs.Labelled.{labelledFrom, Follows, NextLabelled, outputStep, inputStep, HandsOver}
 use Rattle.offers.specs.declared.seek.Sighting.{Sighting}
+use Rattle.offers.specs.Hand.{Copies}
 use Rattle.moves.specs.declared.step.Step.{Step}
 use Rattle.moves.specs.declared.step.Label.the-variants.{Output, Input, Silent}
 use Rattle.moves.specs.declared.step.Next.{Next}
 use Rattle.moves.specs.declared.step.Next.the-variants.{Found, None}
-use Rattle.offers.proofs.Laws.SeekMoves.{prefixed, sightOf}
-use Rattle.offers.proofs.Laws.Upcoming.{Small, short-run, Offered, Ahead, ahead}
+use Rattle.moves.proofs.Laws.Allowed.{run-short}
+use Rattle.moves.proofs.Laws.Threads.{stands-ends}
+use Rattle.offers.proofs.Laws.SeekMoves.{sightOf}
+use Rattle.offers.proofs.Laws.LabelledBehind.{Small, Offered, Ahead, ahead}
+use Rattle.offers.proofs.Laws.Hand.{size-of}
 
--- Two runs, one after the other.
-runs : {out : List ℕ} {from to : ℕ} (x y : Message) → Stands out from (encodeMessages (x ∷ y ∷ [])) to
-    → Stands out from (encodeMessage x) (from + 2 * nodes x) × Stands out (from + 2 * nodes x) (encodeMessage y) to
-unfolding encodeMessages
-runs {out} {from} {to} x y p =
-    let q : Stands out from (encodeMessage x ++ encodeMessage y) to = rw (append-nil (encodeMessage y)) at p in
-    let (mid, a, b) = parts (encodeMessage x) (encodeMessage y ∷ []) q in
-    let here : mid ≡ from + 2 * nodes x = omega (arith, a .size, length-encode x) in
-    (rw here at a, rw here at b)
-
--- Bytes that stand somewhere end within the slice.
-ends-within : {s xs : List ℕ} {at end : ℕ} → Stands s at xs end → 0 < length xs → end ≤ length s
-ends-within {s} {xs} {at} {end} p l =
-    omega (arith, p .size, ap length (p .bytes), length-append xs (drop end s), length-drop at s, length-drop end s)
-
-module _ (out : List ℕ) (at : ℕ) (now : Progress) (message : List ℕ) where
-  pub handed-beyond : length out < now .state .end → HandsOver out at now message None message
+module _ (out : List ℕ) (at : ℕ) (now : Progress) {message : List ℕ} where
+  pub handed-beyond : length out < now .sent → HandsOver out at now message None message
+  unfolding encodeMessages
   handed-beyond h = record {
-    exact = λ x y p l. absurd (let (a, b) = runs x y p in omega (arith, ends-within b (omega (arith, length-encode y, some-node y))));
+    exact = λ x y p l.
+        let (mid, a, rest) = parts (encodeMessage x) (encodeMessages (y ∷ []) ∷ []) p in
+        absurd (omega (arith, stands-ends a (omega (arith, length-encode x, some-node x)), a .size));
   }
 
-  pub handed-back : now .state .end < now .sent → HandsOver out at now message None message
-  handed-back h = record { exact = λ x y p l. absurd (omega (arith, p .size)) }
+  -- The message stands behind the channel.
+  pub handed-over : {n size : ℕ} {after : List ℕ} → SizeOf (take (length out - now .sent) (drop (now .sent) out)) n
+      → Copies out (now .sent + 2 * n) size after → length after ≡ length message
+      → HandsOver out at now message (Found (outputStep at now size)) after
+  unfolding encodeMessages
+  handed-over {n} {size} w c same = record {
+    exact = λ x y p l.
+        let (mid, a, rest) = parts (encodeMessage x) (encodeMessages (y ∷ []) ∷ []) p in
+        let (last, b, e) = parts (encodeMessage y) ([] ∷ []) rest in
+        let here : mid ≡ now .sent + 2 * n = omega (arith, a .size, size-of out w x a) in
+        let there = c .exact y (subst (λ (i : ℕ). Stands out i (encodeMessage y) last) here b) (omega arith) in
+        let long : size ≡ length (encodeMessage y) = omega (arith, there .size) in
+        (ap (λ (k : ℕ). Found (outputStep at now k)) long, rw long at there);
+  }
 
-  module _ (n : ℕ) (w : SizeOf (take (now .state .end - now .sent) (drop (now .sent) out)) n) where
-    middle : (x y : Message) → Stands out (now .sent) (encodeMessages (x ∷ y ∷ [])) (now .state .end)
-        → (n ≡ nodes x) × Stands out (now .sent + 2 * n) (encodeMessage y) (now .state .end)
-    middle x y p =
-        let (a, b) = runs x y p in
-        let first : n ≡ nodes x = w .same x (lent a (omega (arith, b .size))) in
-        (first, rw (← first) at b)
+pub ruleset hands = (handed-beyond, handed-over)
 
-    pub handed-long : length message < now .state .end - (now .sent + 2 * n) → HandsOver out at now message None message
-    handed-long h = record { exact = λ x y p l. absurd (let (a, b) = middle x y p in omega (arith, b .size)) }
-
-    pub handed-over : {after : List ℕ}
-        → after ≡ paste message 0 (take (now .state .end - (now .sent + 2 * n)) (drop (now .sent + 2 * n) out))
-        (length (take (now .state .end - (now .sent + 2 * n)) (drop (now .sent + 2 * n) out)))
-        → HandsOver out at now message (Found (outputStep at now (now .state .end - (now .sent + 2 * n)))) after
-    handed-over {after} e = record {
-      exact = λ x y p l.
-          let (a, b) = middle x y p in
-          let size : now .state .end - (now .sent + 2 * n) ≡ length (encodeMessage y) = omega (arith, b .size) in
-          let e₁ : after ≡ paste message 0 (encodeMessage y) (length (encodeMessage y)) = rw (part b) at e in
-          let here : 0 + length (encodeMessage y) ≡ length (encodeMessage y) = omega arith in
-          (ap (λ (k : ℕ). Found (outputStep at now k)) size, rw here at (put-stands message 0 (encodeMessage y) e₁ (omega arith)));
-    }
-
-pub ruleset hands = (handed-beyond, handed-back, handed-long, handed-over)
-
-pub handed-within : (message ys : List ℕ) (n : ℕ) {after : List ℕ} → after ≡ paste message 0 (take n ys) (length (take n ys))
-    → n ≤ length message → Within 0 (length message) message after
-handed-within message ys n e l = to-end (put-within message 0 (take n ys) e (omega (arith, length-take n ys)))
+pub handed-within : {a b : List ℕ} → length b ≡ length a → Within 0 (length a) a b
+handed-within {a} {b} e = record {
+  long = e;
+  below = refl;
+  above = drop-of-length-le b {i = length a} (omega arith) ∙ sym (drop-of-length-le a {i = length a} (omega arith));
+}
 
 -- The step of an offer that was seen.
-module _ (start : ℕ) (p : Spot) (a : Acting) (x : Message) where
+module _ (start : ℕ) (p : Spot) (a : Acting) (x : Message) (ws : List Move) where
   output-shown : {found : Sighting} {after₁ message after : List ℕ} {r : Next} (f : Prefix)
       → Sees after₁ found (recordAt start p) (prefixed a f) → wanted (labelled true) x (prefixed a f) ≡ true
       → Small (prefixed a f) → HandsOver after₁ (found .at) (found .done) message r after → 510 ≤ length message
-      → (r ≡ Found (stepOf start (alone p (prefixed a f)))) × Told after (alone p (prefixed a f))
-  unfolding wanted sentBy stepOf
+      → Shown start after r (alone p (prefixed a f) ∷ ws)
+  unfolding wanted sentBy stepOf runOf
   output-shown (output C M) v w o h l =
-      let short = short-run (a .bound) M (neither (over (a .bound) C) _ o .1) in
+      let short = run-short (a .bound) M (neither (over (a .bound) C) _ o .1) in
       let (e, s) = h .exact (worked (a .bound) C) (worked (a .bound) M) (v .messages) (omega arith) in
-      (e ∙ rw (v .at, v .mark, v .next), s also none)
+      (e ∙ rw (v .at, v .mark, v .next), s)
   output-shown (input C) v w o h l = absurd (let z : _≡_ {A = ℕ} 0 1 = cc in omega arith)
 
   input-shown : {found : Sighting} {after₁ : List ℕ} (message : List ℕ) (f : Prefix)
       → Sees after₁ found (recordAt start p) (prefixed a f) → wanted (labelled false) x (prefixed a f) ≡ true
-      → (Found (inputStep (found .at) (found .done)) ≡ Found (stepOf start (alone p (prefixed a f)))) × Told message (alone p (prefixed a f))
-  unfolding wanted stepOf
+      → Shown start message (Found (inputStep (found .at) (found .done))) (alone p (prefixed a f) ∷ ws)
+  unfolding wanted stepOf runOf
   input-shown message (output C M) v w = absurd (let z : _≡_ {A = ℕ} 0 1 = cc in omega arith)
-  input-shown message (input C) v w = (rw (v .at, v .mark, v .next), none)
+  input-shown message (input C) v w = (rw (v .at, v .mark, v .next), record { bytes = refl; size = refl })
 
 -- What the search among the threads shows is the first move behind the cursor.
 module _ (sending : Bool) (s channel : List ℕ) (st : State) (at from : ℕ) (m out message : List ℕ) {q : Quest} {found : Sighting}
@@ -133,7 +113,7 @@ module _ (sending : Bool) (s channel : List ℕ) (st : State) (at from : ℕ) (m
   }
     where
       of : (x : Message) (ws : List Move) → ShowsSight out₁ found (sightOf (st .start) ws) → Every (Offered sending x) ws
-          → ShowsNext (st .start) message None ws
+          → Shown (st .start) message None ws
       of x [] w o = refl
       of x (alone p a ∷ ws) w o = absurd (omega (arith, w .mark))
       of x (inside p j ∷ ws) w (o also os) = absurd o
@@ -150,9 +130,9 @@ output-follows s channel st at from m out message {q} {found} {out₁} {after} {
 }
   where
     of : (x : Message) (ws : List Move) → 510 ≤ length message → ShowsSight out₁ found (sightOf (st .start) ws) → Every (Offered true x) ws
-        → ShowsNext (st .start) after r ws
+        → Shown (st .start) after r ws
     of x [] l w o = absurd (z w)
-    of x (alone p a ∷ ws) l w ((o, small) also os) = output-shown (st .start) p a x (a .prefix) w o small h l
+    of x (alone p a ∷ ws) l w ((o, small) also os) = output-shown (st .start) p a x ws (a .prefix) w o small h l
     of x (inside p j ∷ ws) l w (o also os) = absurd o
     of x (between p t j ∷ ws) l w (o also os) = absurd o
 
@@ -167,9 +147,9 @@ input-follows s channel st at from m out message {q} {found} {out₁} e v z = re
 }
   where
     of : (x : Message) (ws : List Move) → ShowsSight out₁ found (sightOf (st .start) ws) → Every (Offered false x) ws
-        → ShowsNext (st .start) message (Found (inputStep (found .at) (found .done))) ws
+        → Shown (st .start) message (Found (inputStep (found .at) (found .done))) ws
     of x [] w o = absurd (z w)
-    of x (alone p a ∷ ws) w ((o, small) also os) = input-shown (st .start) p a x message (a .prefix) w o
+    of x (alone p a ∷ ws) w ((o, small) also os) = input-shown (st .start) p a x ws message (a .prefix) w o
     of x (inside p j ∷ ws) w (o also os) = absurd o
     of x (between p t j ∷ ws) w (o also os) = absurd o
 

@@ -15,25 +15,24 @@ use Rattle.meaning.specs.Judging.Limits.{overSettling, overOffers}
 use Rattle.meaning.proofs.Judging.Alike.{copiesAlike}
 use Rattle.messages.specs.Encoding.{numberAt}
 use Rattle.messages.specs.Buffer.{Within}
-use Rattle.states.specs.Record.{Placed, processOf, boundOf, encodeRecord, encodeRecords}
+use Rattle.states.specs.Record.{Placed, processOf, boundOf, encodeRecord}
 use Rattle.states.specs.Course.{Going, going, found}
-use Rattle.threads.specs.Machine.{go}
+use Rattle.walks.specs.Walking.{go}
 use Rattle.states.specs.Shown.{ShowsCourse}
 use Rattle.threads.specs.declared.task.Task.the-variants.{Seek}
 use Rattle.threads.specs.declared.task.Quest.{Quest}
 use Rattle.states.specs.declared.progress.Progress.{Progress}
-use Rattle.states.proofs.Laws.Stored.{record-parts}
-use Rattle.walks.proofs.Laws.Visit.{begins-shown}
+use Rattle.forms.proofs.Laws.Visit.{begins-shown}
 use Rattle.positions.specs.Located.{Acting, acting}
 use Rattle.positions.specs.Sought.{wanted, sentBy, first, offersBut}
 use Rattle.positions.proofs.Laws.SeekFirst.{soughtFirst}
 use Rattle.moves.specs.Spot.{offersOf}
 use Rattle.moves.specs.Threads.{Judged, Threads}
-use Rattle.walks.specs.Visit.{Begins, Labelled, Visits}
+use Rattle.forms.specs.Visit.{Begins, Labelled, Visits}
 use Rattle.offers.specs.Seek.{Sight, seen, afresh, firstOf, firstAmong, ShowsSight, Looks, Seeks}
-use Rattle.walks.specs.Visit.{nothingYet}
+use Rattle.forms.specs.Visit.{nothingYet}
 use Rattle.offers.specs.declared.seek.Sighting.{Sighting}
-use Rattle.moves.proofs.Laws.Threads.{first-thread, threads-kept, no-threads}
+use Rattle.moves.proofs.Laws.Threads.{first-thread, threads-kept, no-threads, record-end}
 
 -- A walk over one thread finds the first of its offers, which do not depend on the name at which the thread was settled.
 thread-sought : (t : Placed) (q : Quest) (x : Message) {k : ℕ} (n : ℕ) → Judged k t → k ≤ n → q .but ≡ 0
@@ -101,15 +100,6 @@ unfolding firstAmong
 among-sought q x n skip at t ts e = rw (e, firstAmong)
 
 module _ (s label : List ℕ) (at to : ℕ) (m : List ℕ) (q : Quest) (skip n : ℕ) (out : List ℕ) where
-  -- A record takes at least four bytes, before the end of the state.
-  record-end : (t : Placed) (ts : List Placed) {k : ℕ} → Threads s out at k (t ∷ ts) to
-      → (length (encodeRecord t) ≡ 4 + numberAt out (at + 2)) × (at + length (encodeRecord t) ≤ to)
-  unfolding encodeRecords
-  record-end t ts h =
-      let (p, j, rest) = first-thread t ts h in
-      let (a, b, c) = record-parts t (p .stands) in
-      (omega (arith, c .size), omega (arith, rest .stands .size))
-
   pub seek-none : {r : Sighting} → r .done .mark ≡ 0 → to ≤ at → Seeks s label at to m q skip n out r out
   unfolding firstAmong
   seek-none {r} e l = record { exact = λ ps x h k b d f g i j. of ps x h }

@@ -13,8 +13,8 @@ use Rattle.meaning.specs.Steps.Offer.{offer, placed}
 use Rattle.meaning.specs.Steps.Enumeration.{Cut, cut, shift, cuts, offers}
 use Rattle.meaning.proofs.Test.{chosen as tested}
 use Rattle.meaning.proofs.Every.{every-map, every-joined}
-use Rattle.positions.specs.Located.{Acting, acting, inside, replaced}
-use Rattle.positions.specs.Joint.{actingBut, bothReplaced}
+use Rattle.positions.specs.Located.{Acting, acting, inside, replaced, replacedAs, bare}
+use Rattle.positions.specs.Joint.{actingBut, bothReplaced, bothReplacedAs}
 use Rattle.positions.proofs.Laws.Located.{bounds-inside, outside, part-outside, outside-first, acting-inside, replaced-outside}
 use Rattle.positions.proofs.Laws.Located.{new-part, then-part, else-part, let-part, left-part, right-part, repl-part}
 use Rattle.positions.proofs.Laws.Located.{offers-append, located, map-every, offersLocated}
@@ -148,8 +148,8 @@ beside-laws {B} {C} apart b c = record {
       ap₂ _++_ (b .second x zx y zy k j (λ i. out (inl i))) (c .second x zx y zy k j (λ i. out (inr i)));
 }
 
--- At a position outside a process none of its offers is left out, and bothReplaced replaces at the other position alone.
-others-outside : (x : ℕ) (P : Process) (at : ℕ) (ρ : Bound) (n k : ℕ) → inside x at P ≡ false
+-- At a position outside a process none of its offers is left out, and with two positions only the other one matters.
+pub others-outside : (x : ℕ) (P : Process) (at : ℕ) (ρ : Bound) (n k : ℕ) → inside x at P ≡ false
     → actingBut x P at ρ n k ≡ acting P at ρ n k
 unfolding actingBut acting
 others-outside x Process.nil at ρ n k out = refl
@@ -164,13 +164,13 @@ others-outside x (Process.par P Q) at ρ n k out =
     (others-outside x Q _ ρ _ k (part-outside x (right-part at P Q) out))
 others-outside x (Process.repl P) at ρ n k out = rw (part-outside x (repl-part at P) out, actingBut)
 
-module _ (x : ℕ) (zx : List Thread) (y : ℕ) (zy : List Thread) where
-  both-outside : (P : Process) (at : ℕ) (ρ : Bound) (n k j : ℕ) → inside x at P ≡ false
-      → bothReplaced x zx y zy P at ρ n k j ≡ replaced y zy P at ρ n j
-  unfolding bothReplaced replaced
+module _ {A : Type 0} (note : ℕ → Thread → A) (x : ℕ) (zx : List A) (y : ℕ) (zy : List A) where
+  pub both-outside : (P : Process) (at : ℕ) (ρ : Bound) (n k j : ℕ) → inside x at P ≡ false
+      → bothReplacedAs note x zx y zy P at ρ n k j ≡ replacedAs note y zy P at ρ n j
+  unfolding bothReplacedAs replacedAs
   both-outside Process.nil at ρ n k j out = refl
   both-outside (Process.new P) at ρ n k j out = both-outside P _ _ _ k j (part-outside x (new-part at P) out)
-  both-outside (Process.act p P) at ρ n k j out = rw (outside-first x at (Process.act p P) out, bothReplaced)
+  both-outside (Process.act p P) at ρ n k j out = rw (outside-first x at (Process.act p P) out, bothReplacedAs)
   both-outside (Process.if M N P Q) at ρ n k j out =
       tested _≡_ (equal (written ρ M) (written ρ N)) (both-outside P _ ρ n k j (part-outside x (then-part at M N P Q) out))
       (both-outside Q _ ρ n k j (part-outside x (else-part at M N P Q) out))
@@ -178,7 +178,7 @@ module _ (x : ℕ) (zx : List Thread) (y : ℕ) (zy : List Thread) where
   both-outside (Process.par P Q) at ρ n k j out =
       ap₂ _++_ (both-outside P _ ρ n k j (part-outside x (left-part at P Q) out))
       (both-outside Q _ ρ _ k j (part-outside x (right-part at P Q) out))
-  both-outside (Process.repl P) at ρ n k j out = rw (part-outside x (repl-part at P) out, bothReplaced)
+  both-outside (Process.repl P) at ρ n k j out = rw (part-outside x (repl-part at P) out, bothReplacedAs)
 
 pub block-laws : (P : Process) (at : ℕ) (ρ : Bound) (n : ℕ) → Laws (block P at ρ n)
 block-laws P at ρ n = record {
@@ -186,7 +186,7 @@ block-laws P at ρ n = record {
   offered = offersLocated P at ρ n;
   still = λ x z k out. replaced-outside x z P at ρ n k (not-within x out);
   everyone = λ x k out. others-outside x P at ρ n k (not-within x out);
-  second = λ x zx y zy k j out. both-outside x zx y zy P at ρ n k j (not-within x out);
+  second = λ x zx y zy k j out. both-outside bare x zx y zy P at ρ n k j (not-within x out);
 }
   where
     not-within : (x : ℕ) → ¬ (Within at P x) → inside x at P ≡ false

@@ -13,16 +13,18 @@ use Rattle.meaning.proofs.Every.{every-map, every-joined}
 use Rattle.states.specs.Place.{rightAt, restAt}
 use Rattle.states.specs.Record.{Placed}
 use Rattle.states.specs.Course.{further, named, push}
-use Rattle.threads.specs.Machine.{holds, opening, opened, atPrefix, atRepl, go}
-use Rattle.positions.specs.Located.{Acting, acting, inside}
-use Rattle.positions.specs.Rebuilt.{replacedAt, restOf, overRest}
+use Rattle.threads.specs.Machine.{holds, opening, opened, atRepl}
+use Rattle.walks.specs.Walking.{atPrefix, go}
+use Rattle.positions.specs.Located.{Acting, acting, inside, replacedAs}
+use Rattle.positions.specs.Rebuilt.{replacedAt, restOf, overRest, placedAt}
 use Rattle.threads.specs.declared.task.Task.{Task}
 use Rattle.threads.specs.declared.task.Task.the-variants.{Build}
 use Rattle.threads.specs.declared.task.Plan.{Plan}
 use Rattle.positions.proofs.Laws.Located.{left-part, right-part, repl-part, Inside, acting-inside, left-only, right-only}
+use Rattle.positions.proofs.Laws.Located.{replaced-act, replaced-copy}
 use Rattle.positions.proofs.Laws.Everywhere.{every-and}
 use Rattle.positions.proofs.Laws.Leads.{Said, said, Cases, by-cases}
-use Rattle.positions.proofs.Laws.Rebuilt.{replacedAt-outside, replacedAt-act, replacedAt-copy}
+use Rattle.positions.proofs.Laws.Rebuilt.{replacedAt-outside}
 use Rattle.walks.proofs.Laws.Crowd.{crowded}
 use Rattle.positions.proofs.Laws.Writing.{writes-returned, writes-settled}
 use Rattle.positions.proofs.Laws.Marks.{Plain, Only, holds-inside}
@@ -40,7 +42,7 @@ module _ {T : Task} {x : Message} {R : (at : ℕ) → Process → Type 0} (plain
   pub does-left : inside y (at + 1) P ≡ true → R (rightAt at P) Q → overSettling Q ρ (names P ρ n) ≡ false
       → Does T x P (at + 1) ρ n o (replacedAt y z P (at + 1) ρ n k)
       → Does T x (Process.par P Q) at ρ n o (replacedAt y z (Process.par P Q) at ρ n k)
-  unfolding replacedAt
+  unfolding replacedAs
   does-left i out free d =
       rw (replacedAt-outside y z Q (rightAt at P) ρ (names P ρ n) k (left-only y at P Q i))
       (rw or-false at (does-par P Q d (does-plain plain Q _ ρ _ out free)))
@@ -48,7 +50,7 @@ module _ {T : Task} {x : Message} {R : (at : ℕ) → Process → Type 0} (plain
   pub does-right : inside y (rightAt at P) Q ≡ true → R (at + 1) P → overSettling P ρ n ≡ false
       → Does T x Q (rightAt at P) ρ (names P ρ n) o (replacedAt y z Q (rightAt at P) ρ (names P ρ n) k)
       → Does T x (Process.par P Q) at ρ n o (replacedAt y z (Process.par P Q) at ρ n k)
-  unfolding replacedAt
+  unfolding replacedAs
   does-right i out free d =
       rw (replacedAt-outside y z P (at + 1) ρ n k (right-only y at P Q i)) (does-par P Q (does-plain plain P _ ρ n out free) d)
 
@@ -68,7 +70,7 @@ module _ (b : Plan) (x : Message) {R : (at : ℕ) → Process → Type 0} {mark 
   unfolding go names atPrefix crowded
   meant-action p P at ρ n k m st here = record {
     writes = λ g w.
-        rw (only .at-thread at ρ p P _ (named n g) m, replacedAt-act _ at ρ n k p P)
+        rw (only .at-thread at ρ p P _ (named n g) m, replaced-act placedAt _ at ρ n k p P)
         (writes-returned n (writes-settled P x (restAt at p) (more ρ) r (named n g) st w));
   }
 
@@ -76,7 +78,7 @@ module _ (b : Plan) (x : Message) {R : (at : ℕ) → Process → Type 0} {mark 
       → Meant P (at + 1) ρ k (names P ρ k) a → Meant (Process.repl P) at ρ n k a
   unfolding atRepl opening
   meant-copy P at ρ n k free a i e m st here =
-      rw (replacedAt-copy (rest a) at ρ n k (a .place) P i)
+      rw (replaced-copy placedAt (rest a) at ρ n k (a .place) P i)
       (does-repl P at ρ n (λ copy. opened copy (Build b k) k)
       (λ copy g. ap (λ c. further c (push at (repl ρ P))) (only .in-copy k at P copy g (mark-held mark (a .place) _ P true m i)))
       (does-opened P (Build b k) x (at + 1) ρ k free (e m st (only .narrow (repl-part at P) here))))

@@ -18,16 +18,16 @@ use Rattle.states.specs.Record.{Placed}
 use Rattle.states.specs.Course.{named}
 use Rattle.threads.specs.Machine.{taking}
 use Rattle.positions.specs.Located.{Acting, acting, inside}
-use Rattle.positions.specs.Joint.{actingBut, pairs}
-use Rattle.positions.specs.Rebuilt.{bothReplacedAt, restOf, overRest}
+use Rattle.positions.specs.Joint.{actingBut, pairs, bothReplacedAs}
+use Rattle.positions.specs.Rebuilt.{bothReplacedAt, restOf, overRest, placedAt}
 use Rattle.threads.specs.declared.task.Task.the-variants.{Build}
 use Rattle.threads.specs.declared.task.Plan.{Plan}
 use Rattle.positions.proofs.Laws.Located.{left-part, right-part, repl-part, part-inside, at-inside, Inside, acting-inside}
 use Rattle.positions.proofs.Laws.Located.{left-only, right-only}
-use Rattle.positions.proofs.Laws.Block.{block-laws}
+use Rattle.positions.proofs.Laws.Block.{block-laws, both-outside}
 use Rattle.positions.proofs.Laws.Everywhere.{every-and, every-under, every-flatMap, every-matching}
 use Rattle.positions.proofs.Laws.Leads.{Said, said, Leads, Cases, by-cases}
-use Rattle.positions.proofs.Laws.Rebuilt.{both-second, both-neither, both-first}
+use Rattle.positions.proofs.Laws.Rebuilt.{both-neither, both-first}
 use Rattle.positions.proofs.Laws.Marks.{build-plain, sender-only, taker-only, taken}
 use Rattle.positions.proofs.Laws.Walking.{Free, free-lead, free-par, Does, does-lead, does-par, does-plain}
 use Rattle.positions.proofs.Laws.Building.{mark-held, built-only}
@@ -101,7 +101,7 @@ module _ (b : Plan) (x : Message) where
     taker-in : Free P ρ n (b .second) → Every TakerIn (acting P at ρ n (b .second))
     taker-in free =
         every-map (λ c d (t, st′) a (s, st) out.
-        rw (both-second (a .place) (after a) (c .place) (under c) P at ρ n k (b .second) out) (record {
+        rw (both-outside placedAt (a .place) (after a) (c .place) (under c) P at ρ n k (b .second) out) (record {
           writes = λ g w.
               rw (taken b k (λ z. omega arith) P x at ρ (named n g) (mark-held _ (a .place) at P false s out)) (d t st′ tt .writes g w);
         }))
@@ -133,7 +133,7 @@ module _ (b : Plan) (x : Message) where
   module _ (P Q : Process) (at : ℕ) (ρ : Bound) (n k : ℕ) (free : Free (Process.par P Q) ρ n k)
       (free′ : Free (Process.par P Q) ρ n (b .second)) (a : Acting) where
     both-left : Inside (at + 1) P a → Both P (at + 1) ρ n k a → SenderIn P (at + 1) ρ n k a → Both (Process.par P Q) at ρ n k a
-    unfolding bothReplacedAt actingBut
+    unfolding bothReplacedAs actingBut
     both-left i e s =
         let at′ = rightAt at P in
         let m = names P ρ n in
@@ -150,7 +150,7 @@ module _ (b : Plan) (x : Message) where
 
     both-right : Inside (rightAt at P) Q a → Both Q (rightAt at P) ρ (names P ρ n) k a → SenderIn Q (rightAt at P) ρ (names P ρ n) k a
         → Both (Process.par P Q) at ρ n k a
-    unfolding bothReplacedAt actingBut
+    unfolding bothReplacedAs actingBut
     both-right i e s =
         let at′ = rightAt at P in
         let m = names P ρ n in

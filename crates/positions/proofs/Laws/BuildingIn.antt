@@ -13,24 +13,24 @@ use Rattle.meaning.proofs.Every.{every-map, every-joined}
 use Rattle.states.specs.Place.{rightAt}
 use Rattle.states.specs.Record.{Placed}
 use Rattle.states.specs.Course.{Going, Course, further}
-use Rattle.threads.specs.Machine.{sending, taking, opening, opened, builtCopies, atRepl, go}
+use Rattle.threads.specs.Machine.{sending, taking, opening, opened, builtCopies, atRepl}
+use Rattle.walks.specs.Walking.{go}
 use Rattle.positions.specs.Located.{acting, inside}
-use Rattle.positions.specs.Joint.{Pair, pairs, copyPairs, Joint, joints}
-use Rattle.positions.specs.Rebuilt.{alone, replacedAt, leftAt}
+use Rattle.positions.specs.Joint.{Pair, pairs, copyPairs, Joint, joints, leftAs}
+use Rattle.positions.specs.Rebuilt.{alone, replacedAt, leftAt, placedAt}
 use Rattle.threads.specs.declared.task.Task.{Task}
 use Rattle.threads.specs.declared.task.Task.the-variants.{Build, BuildIn}
 use Rattle.threads.specs.declared.task.CopyAt.{CopyAt}
 use Rattle.threads.specs.declared.task.Plan.{Plan}
-use Rattle.positions.proofs.Laws.Located.{inside-bounds, left-only, right-only}
-use Rattle.positions.proofs.Laws.Joint.{joints-inside}
+use Rattle.positions.proofs.Laws.Located.{inside-bounds, left-only, right-only, replaced-repl, replaced-copy}
 use Rattle.positions.proofs.Laws.Everywhere.{every-and, every-under, every-mapped, every-flatMap, every-matching}
 use Rattle.positions.proofs.Laws.Leads.{Said, said, Cases, by-cases}
-use Rattle.positions.proofs.Laws.Rebuilt.{replacedAt-repl, replacedAt-copy}
 use Rattle.positions.proofs.Laws.Writing.{writes-further}
 use Rattle.positions.proofs.Laws.Marks.{holds-none, buildIn-plain, sender-only, taker-only}
 use Rattle.positions.proofs.Laws.Walking.{Free, free-lead, free-par, free-copy, Does, does-lead, does-repl, does-opened}
 use Rattle.positions.proofs.Laws.Building.{mark-held, does-left, does-right, built-only}
 use Rattle.positions.proofs.Laws.BuildingBoth.{after, overAfter, under, overUnder, Sends, Takes, After, Met, built-both}
+use Rattle.positions.proofs.Laws.Copies.{joints-inside}
 
 module _ (b : Plan) (c : CopyAt) (x : Message) where
   -- The silent step w of a repl thread is the one that is meant; and the copies that the taker's side opens meet no limit.
@@ -61,9 +61,9 @@ module _ (b : Plan) (c : CopyAt) (x : Message) where
     -- Of two threads of one copy; of the threads of two copies; of a repl thread inside a copy.
     in-one : (w : Pair) → (After b x P ρ k (w .sender) → Met b x P (at + 1) ρ k (names P ρ k) (w .sender .next) (w .sender) (w .taker))
         → In (Process.repl P) at ρ n k (own false w)
-    unfolding atRepl builtCopies opening leftAt
+    unfolding atRepl builtCopies opening leftAs
     in-one w e i =
-        rw (replacedAt-repl (stepped (own false w)) at ρ n k P)
+        rw (replaced-repl placedAt (stepped (own false w)) at ρ n k P)
         (does-repl P at ρ n (λ copy. opened copy (Build b k) k)
         (λ copy g. rw (eq-eqb (at + 1) (c .place) (sym (i .place)), i .mode, builtCopies))
         (does-opened P (Build b k) x (at + 1) ρ k (free .settling) (e (i .inner, i .one refl) (i .sends) (i .takes))))
@@ -74,11 +74,11 @@ module _ (b : Plan) (c : CopyAt) (x : Message) where
         → Does (Build (taking b) (names P ρ j)) x P (at + 1) ρ j (overUnder b x (w .taker))
         (replacedAt (w .taker .place) (under b x (w .taker)) P (at + 1) ρ j (names P ρ j))
         → In (Process.repl P) at ρ n k (own true w)
-    unfolding atRepl builtCopies opening leftAt
+    unfolding atRepl builtCopies opening leftAs
     in-two w d e i =
         let j = w .sender .next in
         let second : (Task → Going → Course) → Going → Course = λ copy. opened copy (Build (taking b) k) j in
-        rw (replacedAt-repl (stepped (own true w)) at ρ n k P)
+        rw (replaced-repl placedAt (stepped (own true w)) at ρ n k P)
         (does-repl P at ρ n (λ copy g. further (opened copy (Build (sending b) k) k g) (second copy))
         (λ copy g. rw (eq-eqb (at + 1) (c .place) (sym (i .place)), i .mode, i .second, builtCopies))
         (λ g w′. writes-further (second (λ U. go P U x (at + 1) ρ))
@@ -90,7 +90,7 @@ module _ (b : Plan) (c : CopyAt) (x : Message) where
     in-copy w i e j =
         let bounds = inside-bounds (w .place) (at + 1) P i in
         let place = j .place in
-        rw (replacedAt-copy (stepped w) at ρ n k (w .place) P i)
+        rw (replaced-copy placedAt (stepped w) at ρ n k (w .place) P i)
         (does-repl P at ρ n (λ copy. opened copy (BuildIn b c k) k)
         (λ copy g. rw (ne-eqb (at + 1) (c .place) (omega arith), mark-held (c .place) (w .place) (at + 1) P true place i))
         (does-opened P (BuildIn b c k) x (at + 1) ρ k (free .settling) (e j)))

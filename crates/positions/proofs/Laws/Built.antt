@@ -14,7 +14,7 @@ use Rattle.meaning.specs.Judging.Limits.{overSettling}
 use Rattle.meaning.proofs.Every.{every-map}
 use Rattle.states.specs.Record.{Placed}
 use Rattle.states.specs.Course.{Going, unless, returned}
-use Rattle.threads.specs.Machine.{go}
+use Rattle.walks.specs.Walking.{go}
 use Rattle.positions.specs.Located.{acting}
 use Rattle.positions.specs.Joint.{pairs, joints}
 use Rattle.walks.specs.Settled.{settledAt}

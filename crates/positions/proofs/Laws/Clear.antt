@@ -12,7 +12,8 @@ use Rattle.meaning.specs.Logic.Truth.{anyOf}
 use Rattle.meaning.specs.Judging.Limits.{over, overSettling, overPrefix, overOffers}
 use Rattle.meaning.proofs.Test.{neither, any-append}
 use Rattle.states.specs.Course.{Going, named, returned}
-use Rattle.threads.specs.Machine.{opening, opened, go}
+use Rattle.threads.specs.Machine.{opening, opened}
+use Rattle.walks.specs.Walking.{go}
 use Rattle.threads.specs.declared.task.Task.{Task}
 use Rattle.walks.proofs.Laws.Counting.{over-repl, counted}
 

@@ -1,6 +1,8 @@
 -- The repl threads of a settled process, their copies being opened: where they stand, and the silent steps that they take ("Steps").
 -- Assumes nothing.
-use Prim.Native.Nat.{ℕ, _+_}
+use Prim.Native.Nat.{ℕ, _+_, _≤_}
+use native.Mathlib.Omega.{arith}
+use native.Mathlib.Nat.{le-refl}
 use mathlib.Core.Path.{_≡_, refl, sym, _∙_, ap₂}
 use mathlib.Core.Bool.{Bool, true, false}
 use mathlib.Core.Logic.{_⊎_, inl, inr}
@@ -16,18 +18,23 @@ use Rattle.states.specs.Place.{thenAt, elseAt}
 use Rattle.positions.specs.Located.{inside}
 use Rattle.positions.specs.Joint.{Pair, pairs, copyPairs, Joint, joints}
 use Rattle.positions.specs.Sought.{Opened, copies}
-use Rattle.positions.proofs.Laws.Located.{Part, new-part, then-part, else-part, let-part, left-part, right-part, repl-part, part-inside}
-use Rattle.positions.proofs.Laws.Located.{at-inside}
+use Rattle.positions.proofs.Laws.Located.{Part, new-part, then-part, else-part, let-part, left-part, right-part, repl-part}
+use Rattle.positions.proofs.Laws.Located.{size, bounds-inside}
 use Rattle.positions.proofs.Laws.Block.{flatMap-append}
+use Rattle.positions.proofs.Laws.Everywhere.{every-mapped, every-flatMap, everywhere}
 
 -- The silent steps of one repl thread: the pairs within its copy, then those of two copies.
 abbrev pub jointOf : Opened → Bool → Pair → Joint
 jointOf w two p = record { place = w .place; bound = w .bound; copied = w .copied; opens = w .opens; two = two; pair = p }
 
+abbrev within : Opened → List Pair
+within w = pairs (w .copied) (w .place + 1) (w .bound) (w .opens) (names (w .copied) (w .bound) (w .opens))
+
+abbrev both : Opened → List Pair
+both w = copyPairs (w .copied) (w .place + 1) (w .bound) (w .opens)
+
 abbrev pub jointsOf : Opened → List Joint
-jointsOf w =
-    map (jointOf w false) (pairs (w .copied) (w .place + 1) (w .bound) (w .opens) (names (w .copied) (w .bound) (w .opens)))
-    ++ map (jointOf w true) (copyPairs (w .copied) (w .place + 1) (w .bound) (w .opens))
+jointsOf w = map (jointOf w false) (within w) ++ map (jointOf w true) (both w)
 
 -- The silent steps of the repl threads, thread by thread.
 pub copiesSteps : (P : Process) (at : ℕ) (ρ : Bound) (n k : ℕ) → joints P at ρ n k ≡ flatMap jointsOf (copies P at ρ n k)
@@ -46,30 +53,46 @@ copiesSteps (Process.repl P) at ρ n k =
     append-assoc (joints P (at + 1) ρ k (names P ρ k)) _ _ ∙ ap₂ _++_ (copiesSteps P (at + 1) ρ k _) (sym (append-nil (jointsOf w)))
     ∙ sym (flatMap-append jointsOf inner (w ∷ []))
 
--- Each repl thread is at a position of the process.
-abbrev Inside : ℕ → Process → Opened → Type 0
-Inside at P w = inside (w .place) at P ≡ true
+-- Each repl thread is at a position of the process, and its own process ends in it.
+abbrev Stays : ℕ → Process → Opened → Type 0
+Stays at P w = (at ≤ w .place) × (w .place + 1 + size (w .copied) ≤ at + size P)
 
-part-every : {at at′ : ℕ} {P P′ : Process} → Part at P at′ P′ → {ws : List Opened} → Every (Inside at′ P′) ws → Every (Inside at P) ws
-part-every part every = every-map (λ w e. part-inside (w .place) part e) every
+part-stays : {at at′ : ℕ} {P P′ : Process} → Part at P at′ P′ → {ws : List Opened} → Every (Stays at′ P′) ws → Every (Stays at P) ws
+part-stays part every = every-map (λ w (low, high). (omega (arith, part .behind), omega (arith, part .ends))) every
 
-pub copies-inside : (P : Process) (at : ℕ) (ρ : Bound) (n k : ℕ) → Every (Inside at P) (copies P at ρ n k)
+copies-stay : (P : Process) (at : ℕ) (ρ : Bound) (n k : ℕ) → Every (Stays at P) (copies P at ρ n k)
 unfolding copies
-copies-inside Process.nil at ρ n k = none
-copies-inside (Process.new P) at ρ n k = part-every (new-part at P) (copies-inside P _ _ _ k)
-copies-inside (Process.act p P) at ρ n k = none
-copies-inside (Process.if M N P Q) at ρ n k =
+copies-stay Process.nil at ρ n k = none
+copies-stay (Process.new P) at ρ n k = part-stays (new-part at P) (copies-stay P _ _ _ k)
+copies-stay (Process.act p P) at ρ n k = none
+copies-stay (Process.if M N P Q) at ρ n k =
     elim (equal (written ρ M) (written ρ N)) as (λ b.
-    Every (Inside at (Process.if M N P Q))
+    Every (Stays at (Process.if M N P Q))
     (elim b [ true ↦ copies P (thenAt at M N) ρ n k | false ↦ copies Q (elseAt at M N P) ρ n k ])) [
-      | true ↦ part-every (then-part at M N P Q) (copies-inside P _ ρ n k)
-      | false ↦ part-every (else-part at M N P Q) (copies-inside Q _ ρ n k)
+      | true ↦ part-stays (then-part at M N P Q) (copies-stay P _ ρ n k)
+      | false ↦ part-stays (else-part at M N P Q) (copies-stay Q _ ρ n k)
     ]
-copies-inside (Process.let-in M P) at ρ n k = part-every (let-part at M P) (copies-inside P _ _ n k)
-copies-inside (Process.par P Q) at ρ n k =
-    every-joined (part-every (left-part at P Q) (copies-inside P _ ρ n k)) (part-every (right-part at P Q) (copies-inside Q _ ρ _ k))
-copies-inside (Process.repl P) at ρ n k =
-    every-joined (part-every (repl-part at P) (copies-inside P _ ρ _ _)) (at-inside at (Process.repl P) also none)
+copies-stay (Process.let-in M P) at ρ n k = part-stays (let-part at M P) (copies-stay P _ _ n k)
+copies-stay (Process.par P Q) at ρ n k =
+    every-joined (part-stays (left-part at P Q) (copies-stay P _ ρ n k)) (part-stays (right-part at P Q) (copies-stay Q _ ρ _ k))
+copies-stay (Process.repl P) at ρ n k =
+    every-joined (part-stays (repl-part at P) (copies-stay P _ ρ _ _)) ((le-refl at, repl-part at P .ends) also none)
+
+module _ (P : Process) (at : ℕ) (ρ : Bound) (n k : ℕ) where
+  pub copies-inside : Every (λ w. inside (w .place) at P ≡ true) (copies P at ρ n k)
+  copies-inside = every-map (λ w (low, high). bounds-inside (w .place) at P low (omega arith)) (copies-stay P at ρ n k)
+
+  pub copies-end : Every (λ w. w .place + 1 + size (w .copied) ≤ at + size P) (copies P at ρ n k)
+  copies-end = every-map (λ w (low, high). high) (copies-stay P at ρ n k)
+
+  -- So are the silent steps that they take.
+  pub joints-inside : Every (λ w. inside (w .place) at P ≡ true) (joints P at ρ n k)
+  joints-inside =
+      rw (copiesSteps P at ρ n k) (every-flatMap jointsOf (every-map (λ w i. every-joined (own w i false (within w)) (own w i true (both w))) copies-inside))
+    where
+      own : (w : Opened) → inside (w .place) at P ≡ true → (two : Bool) (ps : List Pair)
+          → Every (λ j. inside (j .place) at P ≡ true) (map (jointOf w two) ps)
+      own w i two ps = every-mapped (jointOf w two) (everywhere (λ p. i) ps)
 
 -- A place in a list: of an empty one, of one that is joined from two, of one with a single element, and by an equation.
 module _ {A : Type 0} where

@@ -11,7 +11,8 @@ use Rattle.meaning.specs.Steps.State.{Bound, names, settle}
 use Rattle.meaning.specs.Logic.Truth.{anyOf}
 use Rattle.meaning.specs.Judging.Limits.{overSettling, overOffers}
 use Rattle.states.specs.Course.{Going, Course, going, found, further, named}
-use Rattle.threads.specs.Machine.{opening, opened, atPrefix, atRepl, go}
+use Rattle.threads.specs.Machine.{opening, opened, atRepl}
+use Rattle.walks.specs.Walking.{atPrefix, go}
 use Rattle.positions.specs.Sought.{Opened, copies, firstCopy}
 use Rattle.threads.specs.declared.task.Task.the-variants.{Find}
 use Rattle.positions.proofs.Laws.Located.{size, inside-bounds, outside, some-bytes, part-first, repl-part}

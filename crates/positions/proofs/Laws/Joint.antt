@@ -5,65 +5,30 @@ use mathlib.Core.Bool.{Bool, true, false}
 use mathlib.Core.List.{List, [], _∷_, _++_, map, map-append, map-map, map-id, append-nil, flatMap}
 use Rattle.meaning.specs.Messages.Normal.{equal}
 use Rattle.meaning.specs.Bytes.Process.{Prefix, Process}
-use Rattle.meaning.specs.Places.{Every, none, _also_}
 use Rattle.meaning.specs.Steps.State.{Bound, written, Thread, act, repl, names, settle}
 use Rattle.meaning.specs.Steps.Silent.{Meeting, meeting, framed}
 use Rattle.meaning.specs.Steps.Enumeration.{cuts, pairsAt, twoCopies, silentOf}
 use Rattle.meaning.specs.Steps.Copies.{resultOf}
-use Rattle.meaning.proofs.Every.{every-map, every-joined}
+use Rattle.meaning.proofs.Every.{every-map}
 use Rattle.meaning.proofs.Steps.Enumeration.Cuts.{among}
 use Rattle.meaning.proofs.Steps.Enumeration.Offers.{kept}
 use Rattle.meaning.proofs.Steps.Enumeration.Silent.{silent-repl, silents-among}
 use Rattle.states.specs.Place.{thenAt, elseAt, rightAt}
-use Rattle.positions.specs.Located.{acting, inside, replaced}
-use Rattle.positions.specs.Joint.{Pair, pairs, copyPairs, Joint, joints, left, met}
+use Rattle.positions.specs.Located.{acting, inside, replaced, replacedAs, bare}
+use Rattle.positions.specs.Joint.{Pair, pairs, copyPairs, Joint, joints, left, met, leftAs}
 use Rattle.positions.specs.Theorems.{SilentsLocated}
-use Rattle.positions.proofs.Laws.Located.{Part, new-part, then-part, else-part, let-part, left-part, right-part, repl-part, part-inside}
-use Rattle.positions.proofs.Laws.Located.{at-inside, replaced-repl, replaced-left, replaced-right, replaced-copy}
+use Rattle.positions.proofs.Laws.Located.{replaced-repl, replaced-left, replaced-right, replaced-copy}
 use Rattle.positions.proofs.Laws.Located.{map-every, among-append, offersLocated}
 use Rattle.positions.proofs.Laws.Block.{flatMap-map, block-laws}
 use Rattle.positions.proofs.Laws.Pairs.{takers, met-pairs, pairsLocated}
+use Rattle.positions.proofs.Laws.Copies.{joints-inside}
 
 -- A silent step of the repl thread of P at a position, its copy being opened at k.
 abbrev ofCopy : Process → (at : ℕ) → Bound → (k : ℕ) → Bool → Pair → Joint
 ofCopy P at ρ k two w = record { place = at; bound = ρ; copied = P; opens = k; two = two; pair = w }
 
--- Each silent step of a repl thread is at a position of the process.
-abbrev Inside : ℕ → Process → Joint → Type 0
-Inside at P w = inside (w .place) at P ≡ true
-
-part-every : {at at′ : ℕ} {P P′ : Process} → Part at P at′ P′ → {ws : List Joint} → Every (Inside at′ P′) ws → Every (Inside at P) ws
-part-every part every = every-map (λ w e. part-inside (w .place) part e) every
-
-every-of : {A B : Type 0} {Q : B → Type 0} (f : A → B) → ((x : A) → Q (f x)) → (xs : List A) → Every Q (map f xs)
-every-of f q [] = none
-every-of f q (x ∷ xs) = q x also every-of f q xs
-
-pub joints-inside : (P : Process) (at : ℕ) (ρ : Bound) (n k : ℕ) → Every (Inside at P) (joints P at ρ n k)
-unfolding joints
-joints-inside Process.nil at ρ n k = none
-joints-inside (Process.new P) at ρ n k = part-every (new-part at P) (joints-inside P _ _ _ k)
-joints-inside (Process.act p P) at ρ n k = none
-joints-inside (Process.if M N P Q) at ρ n k =
-    elim (equal (written ρ M) (written ρ N)) as (λ b.
-    Every (Inside at (Process.if M N P Q))
-    (elim b [ true ↦ joints P (thenAt at M N) ρ n k | false ↦ joints Q (elseAt at M N P) ρ n k ])) [
-      | true ↦ part-every (then-part at M N P Q) (joints-inside P _ ρ n k)
-      | false ↦ part-every (else-part at M N P Q) (joints-inside Q _ ρ n k)
-    ]
-joints-inside (Process.let-in M P) at ρ n k = part-every (let-part at M P) (joints-inside P _ _ n k)
-joints-inside (Process.par P Q) at ρ n k =
-    every-joined (part-every (left-part at P Q) (joints-inside P _ ρ n k)) (part-every (right-part at P Q) (joints-inside Q _ ρ _ k))
-joints-inside (Process.repl P) at ρ n k =
-    let m = names P ρ k in
-    every-joined (every-joined (part-every (repl-part at P) (joints-inside P (at + 1) ρ k m)) (own false (pairs P (at + 1) ρ k m)))
-    (own true (copyPairs P (at + 1) ρ k))
-  where
-    own : (two : Bool) (ws : List Pair) → Every (Inside at (Process.repl P)) (map (ofCopy P at ρ k two) ws)
-    own two ws = every-of (ofCopy P at ρ k two) (λ w. at-inside at (Process.repl P)) ws
-
 -- A silent step with its position as one of the definitions: f says what is left when a list takes the place of the thread there.
-abbrev jointly : (ℕ → List Thread → List Thread) → Joint → Meeting
+abbrev pub jointly : (ℕ → List Thread → List Thread) → Joint → Meeting
 jointly f w = met (w .pair) (λ x y. f (w .place) (kept (w .bound) (w .copied) (left w x y)))
 
 framed-twice : (g h : List Thread → List Thread) (w : Meeting) → framed g (framed h w) ≡ framed (λ x. g (h x)) w
@@ -96,17 +61,17 @@ module _ (P : Process) (at : ℕ) (ρ : Bound) (n k : ℕ) where
       ≡ map (λ w. met w (λ x y. kept ρ P (left (ofCopy P at ρ k two w) x y))) ws
   copy-left two ws =
       map-map (jointly inRepl) (ofCopy P at ρ k two) ws
-      ∙ ap (λ f. map f ws) (fun-ext λ w. ap (met w) (λ i x y. replaced-repl (kept ρ P (left (ofCopy P at ρ k two w) x y)) at ρ n k P i))
+      ∙ ap (λ f. map f ws) (fun-ext λ w. ap (met w) (λ i x y. replaced-repl bare (kept ρ P (left (ofCopy P at ρ k two w) x y)) at ρ n k P i))
 
   within-located : map (framed (kept ρ P)) (flatMap (pairsAt (names P ρ k)) (cuts (settle P ρ k)))
       ≡ map (jointly inRepl) (map (ofCopy P at ρ k false) (pairs P (at + 1) ρ k (names P ρ k)))
-  unfolding met left
+  unfolding met leftAs
   within-located =
       ap (map (framed (kept ρ P))) (pairsLocated P (at + 1) ρ k (names P ρ k)) ∙ map-map _ _ (pairs P (at + 1) ρ k (names P ρ k))
       ∙ sym (copy-left false (pairs P (at + 1) ρ k (names P ρ k)))
 
   copies-located : twoCopies ρ P k ≡ map (jointly inRepl) (map (ofCopy P at ρ k true) (copyPairs P (at + 1) ρ k))
-  unfolding twoCopies copyPairs left
+  unfolding twoCopies copyPairs leftAs
   copies-located =
       let m = names P ρ k in
       let senders = acting P (at + 1) ρ k m in
@@ -119,7 +84,7 @@ module _ (P : Process) (at : ℕ) (ρ : Bound) (n k : ℕ) where
       (λ a. acting P (at + 1) ρ (a .next) (names P ρ (a .next))) senders)
 
 -- The silent steps of one thread.
-joints-one : (k : ℕ) (t : Thread) → among framed silentOf k (t ∷ []) ≡ silentOf t k
+pub joints-one : (k : ℕ) (t : Thread) → among framed silentOf k (t ∷ []) ≡ silentOf t k
 unfolding among cuts flatMap
 joints-one k t = append-nil _ ∙ ap (λ f. map f (silentOf t k)) (fun-ext each) ∙ map-id (silentOf t k)
   where
@@ -131,7 +96,7 @@ unfolding silentOf resultOf
 silent-act ρ p P k = refl
 
 jointsLocated : (P : Process) (at : ℕ) (ρ : Bound) (n k : ℕ) → JointsAt P at ρ n k
-unfolding settle joints replaced among cuts flatMap
+unfolding settle joints replacedAs among cuts flatMap
 jointsLocated Process.nil at ρ n k = refl
 jointsLocated (Process.new P) at ρ n k = jointsLocated P _ _ _ k
 jointsLocated (Process.act p P) at ρ n k = joints-one k (act ρ p P) ∙ silent-act ρ p P k
@@ -154,7 +119,7 @@ jointsLocated (Process.repl P) at ρ n k =
     ∙ ap₂ _++_
     (ap (map (framed (kept ρ P))) (silents-among m (settle P ρ k))
     ∙ map-append (framed (kept ρ P)) (among framed silentOf m (settle P ρ k)) _
-    ∙ ap₂ _++_ (part-joints P (at + 1) ρ k m (jointsLocated P _ ρ k m) (kept ρ P) _ (λ x e z. replaced-copy x z P at ρ n k e))
+    ∙ ap₂ _++_ (part-joints P (at + 1) ρ k m (jointsLocated P _ ρ k m) (kept ρ P) _ (λ x e z. replaced-copy bare z at ρ n k x P e))
     (within-located P at ρ n k)
     ∙ sym (map-append _ (joints P (at + 1) ρ k m) _))
     (copies-located P at ρ n k)

@@ -14,9 +14,9 @@ use Rattle.meaning.proofs.Test.{neither}
 use Rattle.states.specs.Place.{thenAt, elseAt, bodyAt, rightAt}
 use Rattle.states.specs.Record.{Placed}
 use Rattle.states.specs.Course.{Going, named}
-use Rattle.threads.specs.Machine.{go}
-use Rattle.positions.specs.Located.{Acting, acting}
-use Rattle.positions.specs.Joint.{Joint, actingBut, joints}
+use Rattle.walks.specs.Walking.{go}
+use Rattle.positions.specs.Located.{Acting, acting, replacedAs}
+use Rattle.positions.specs.Joint.{Joint, actingBut, joints, bothReplacedAs}
 use Rattle.walks.specs.Settled.{settledAt}
 use Rattle.positions.specs.Rebuilt.{replacedAt, bothReplacedAt}
 use Rattle.threads.specs.declared.task.Task.{Task}
@@ -55,11 +55,11 @@ pub record Leads (P : Process) (at : ℕ) (ρ : Bound) (n : ℕ) (P′ : Process
 
 module _ (at : ℕ) (ρ : Bound) (n : ℕ) where
   new-leads : (P : Process) → Leads (Process.new P) at ρ n P (at + 1) (ρ ▸ leaf (private n)) (suc n)
-  unfolding said names settle settledAt acting actingBut joints replacedAt bothReplacedAt overSettling go
+  unfolding said names settle settledAt acting actingBut joints replacedAs bothReplacedAs overSettling go
   new-leads P = record { part = new-part at P; same = refl; free = λ f. f; walk = λ f T x g. refl }
 
   let-leads : (M : Term) (P : Process) → Leads (Process.let-in M P) at ρ n P (bodyAt at M) (ρ ▸ worked ρ M) n
-  unfolding said names settle settledAt acting actingBut joints replacedAt bothReplacedAt overSettling go
+  unfolding said names settle settledAt acting actingBut joints replacedAs bothReplacedAs overSettling go
   let-leads M P = record {
     part = let-part at M P;
     same = refl;
@@ -69,19 +69,19 @@ module _ (at : ℕ) (ρ : Bound) (n : ℕ) where
 
   module _ (M N : Term) (P Q : Process) where
     then-leads : equal (written ρ M) (written ρ N) ≡ true → Leads (Process.if M N P Q) at ρ n P (thenAt at M N) ρ n
-    unfolding said names settle settledAt acting actingBut joints replacedAt bothReplacedAt overSettling go
+    unfolding said names settle settledAt acting actingBut joints replacedAs bothReplacedAs overSettling go
     then-leads t = record {
       part = then-part at M N P Q;
-      same = rw (t, names, settle, settledAt, acting, actingBut, joints, replacedAt, bothReplacedAt);
+      same = rw (t, names, settle, settledAt, acting, actingBut, joints, replacedAs, bothReplacedAs);
       free = λ f. rw t at (neither (over ρ M || over ρ N) _ f .1);
       walk = λ f T x g. rw (neither (over ρ M || over ρ N) _ f .0, t, go);
     }
 
     else-leads : equal (written ρ M) (written ρ N) ≡ false → Leads (Process.if M N P Q) at ρ n Q (elseAt at M N P) ρ n
-    unfolding said names settle settledAt acting actingBut joints replacedAt bothReplacedAt overSettling go
+    unfolding said names settle settledAt acting actingBut joints replacedAs bothReplacedAs overSettling go
     else-leads t = record {
       part = else-part at M N P Q;
-      same = rw (t, names, settle, settledAt, acting, actingBut, joints, replacedAt, bothReplacedAt);
+      same = rw (t, names, settle, settledAt, acting, actingBut, joints, replacedAs, bothReplacedAs);
       free = λ f. rw t at (neither (over ρ M || over ρ N) _ f .1);
       walk = λ f T x g. rw (neither (over ρ M || over ρ N) _ f .0, t, go);
     }

@@ -21,7 +21,10 @@ use Rattle.meaning.proofs.Every.{every-map, every-joined}
 use Rattle.meaning.proofs.Steps.Enumeration.Cuts.{chosen, around, among}
 use Rattle.meaning.proofs.Steps.Enumeration.Offers.{kept, offers-repl, offers-among}
 use Rattle.states.specs.Place.{thenAt, elseAt, bodyAt, rightAt}
-use Rattle.positions.specs.Located.{Acting, acting, inside, replaced}
+use Rattle.states.specs.Record.{Placed}
+use Rattle.walks.specs.Settled.{settledAt}
+use Rattle.walks.proofs.Laws.Settling.{settled-threads}
+use Rattle.positions.specs.Located.{Acting, acting, inside, replaced, replacedAs, bare}
 use Rattle.positions.specs.Theorems.{OffersLocated}
 
 -- How many bytes a process takes.
@@ -129,7 +132,7 @@ module _ (x at : ℕ) (P Q : Process) where
 abbrev pub Inside : ℕ → Process → Acting → Type 0
 Inside at P a = inside (a .place) at P ≡ true
 
-part-every : {at at′ : ℕ} {P P′ : Process} → Part at P at′ P′ → {xs : List Acting} → Every (Inside at′ P′) xs
+pub part-every : {at at′ : ℕ} {P P′ : Process} → Part at P at′ P′ → {xs : List Acting} → Every (Inside at′ P′) xs
     → Every (Inside at P) xs
 part-every part every = every-map (λ a e. part-inside (a .place) part e) every
 
@@ -151,48 +154,53 @@ acting-inside (Process.par P Q) at ρ n k =
 acting-inside (Process.repl P) at ρ n k = part-every (repl-part at P) (acting-inside P _ ρ _ _)
 
 -- Nothing is replaced at a position outside the process.
+module _ {A : Type 0} (note : ℕ → Thread → A) (x : ℕ) (z : List A) where
+  pub outside-as : (P : Process) (at : ℕ) (ρ : Bound) (n k : ℕ) → inside x at P ≡ false
+      → replacedAs note x z P at ρ n k ≡ map (λ t. note (t .place) (t .thread)) (settledAt P at ρ n)
+  unfolding replacedAs settledAt
+  outside-as Process.nil at ρ n k out = refl
+  outside-as (Process.new P) at ρ n k out = outside-as P _ _ _ k (part-outside x (new-part at P) out)
+  outside-as (Process.act p P) at ρ n k out = rw (outside-first x at (Process.act p P) out, replacedAs)
+  outside-as (Process.if M N P Q) at ρ n k out =
+      tested (λ ts (ps : List Placed). ts ≡ map (λ t. note (t .place) (t .thread)) ps) (equal (written ρ M) (written ρ N))
+      (outside-as P _ ρ n k (part-outside x (then-part at M N P Q) out)) (outside-as Q _ ρ n k (part-outside x (else-part at M N P Q) out))
+  outside-as (Process.let-in M P) at ρ n k out = outside-as P _ _ n k (part-outside x (let-part at M P) out)
+  outside-as (Process.par P Q) at ρ n k out =
+      ap₂ _++_ (outside-as P _ ρ n k (part-outside x (left-part at P Q) out)) (outside-as Q _ ρ _ k (part-outside x (right-part at P Q) out))
+      ∙ sym (map-append _ (settledAt P (at + 1) ρ n) _)
+  outside-as (Process.repl P) at ρ n k out =
+      rw (outside-first x at (Process.repl P) out, part-outside x (repl-part at P) out, replacedAs)
+
 pub replaced-outside : (x : ℕ) (z : List Thread) (P : Process) (at : ℕ) (ρ : Bound) (n k : ℕ) → inside x at P ≡ false
     → replaced x z P at ρ n k ≡ settle P ρ n
-unfolding replaced settle
-replaced-outside x z Process.nil at ρ n k out = refl
-replaced-outside x z (Process.new P) at ρ n k out = replaced-outside x z P _ _ _ k (part-outside x (new-part at P) out)
-replaced-outside x z (Process.act p P) at ρ n k out = rw (outside-first x at (Process.act p P) out, replaced)
-replaced-outside x z (Process.if M N P Q) at ρ n k out =
-    tested _≡_ (equal (written ρ M) (written ρ N)) (replaced-outside x z P _ ρ n k (part-outside x (then-part at M N P Q) out))
-    (replaced-outside x z Q _ ρ n k (part-outside x (else-part at M N P Q) out))
-replaced-outside x z (Process.let-in M P) at ρ n k out = replaced-outside x z P _ _ n k (part-outside x (let-part at M P) out)
-replaced-outside x z (Process.par P Q) at ρ n k out =
-    ap₂ _++_ (replaced-outside x z P _ ρ n k (part-outside x (left-part at P Q) out))
-    (replaced-outside x z Q _ ρ _ k (part-outside x (right-part at P Q) out))
-replaced-outside x z (Process.repl P) at ρ n k out =
-    rw (outside-first x at (Process.repl P) out, part-outside x (repl-part at P) out, replaced)
+replaced-outside x z P at ρ n k out = outside-as bare x z P at ρ n k out ∙ settled-threads P at ρ n
 
--- What is replaced in an acting thread, in a par, and in a repl thread.
-module _ (z : List Thread) (at : ℕ) (ρ : Bound) (n k : ℕ) where
-  pub replaced-act : (p : Prefix) (P : Process) → replaced at z (Process.act p P) at ρ n k ≡ z
-  unfolding replaced
-  replaced-act p P = rw (eq-eqb at at refl, replaced)
+-- What is replaced in an acting thread, in a repl thread, in its copy, and in a par.
+module _ {A : Type 0} (note : ℕ → Thread → A) (z : List A) (at : ℕ) (ρ : Bound) (n k : ℕ) where
+  pub replaced-act : (p : Prefix) (P : Process) → replacedAs note at z (Process.act p P) at ρ n k ≡ z
+  unfolding replacedAs
+  replaced-act p P = rw (eq-eqb at at refl, replacedAs)
 
-  pub replaced-repl : (P : Process) → replaced at z (Process.repl P) at ρ n k ≡ z
-  unfolding replaced
-  replaced-repl P = rw (eq-eqb at at refl, replaced)
+  pub replaced-repl : (P : Process) → replacedAs note at z (Process.repl P) at ρ n k ≡ z
+  unfolding replacedAs
+  replaced-repl P = rw (eq-eqb at at refl, replacedAs)
+
+  pub replaced-copy : (x : ℕ) (P : Process) → inside x (at + 1) P ≡ true
+      → replacedAs note x z (Process.repl P) at ρ n k ≡ replacedAs note x z P (at + 1) ρ k (names P ρ k) ++ (note at (repl ρ P) ∷ [])
+  unfolding replacedAs
+  replaced-copy x P e = rw (part-first x (repl-part at P) e, e, replacedAs)
 
 module _ (x : ℕ) (z : List Thread) (P : Process) (at : ℕ) (ρ : Bound) (n k : ℕ) where
   pub replaced-left : (Q : Process) → inside x (at + 1) P ≡ true
       → replaced x z (Process.par P Q) at ρ n k ≡ replaced x z P (at + 1) ρ n k ++ settle Q ρ (names P ρ n)
-  unfolding replaced
+  unfolding replacedAs
   replaced-left Q e = ap (λ r. replaced x z P (at + 1) ρ n k ++ r) (replaced-outside x z Q _ ρ _ k (left-only x at P Q e))
 
   pub replaced-right : (Q : Process) → inside x (rightAt at P) Q ≡ true
       → replaced x z (Process.par P Q) at ρ n k ≡ settle P ρ n ++ replaced x z Q (rightAt at P) ρ (names P ρ n) k
-  unfolding replaced
+  unfolding replacedAs
   replaced-right Q e =
       ap (λ r. r ++ replaced x z Q (rightAt at P) ρ (names P ρ n) k) (replaced-outside x z P _ ρ n k (right-only x at P Q e))
-
-  pub replaced-copy : inside x (at + 1) P ≡ true
-      → replaced x z (Process.repl P) at ρ n k ≡ kept ρ P (replaced x z P (at + 1) ρ k (names P ρ k))
-  unfolding replaced
-  replaced-copy e = rw (part-first x (repl-part at P) e, e, replaced)
 
 -- A map that changes no element.
 map-same : {Y : Type 0} (g : Y → Y) → ((y : Y) → g y ≡ y) → (ys : List Y) → map g ys ≡ ys
@@ -273,11 +281,11 @@ module _ (P : Process) (at : ℕ) (ρ : Bound) (n k : ℕ) where
       (acting-inside P at ρ n k))
 
 pub offersLocated : OffersLocated
-unfolding settle acting replaced
+unfolding settle acting replacedAs
 offersLocated Process.nil at ρ n k = offers-none k
 offersLocated (Process.new P) at ρ n k = offersLocated P _ _ _ k
 offersLocated (Process.act p P) at ρ n k =
-    offers-act k ρ p P ∙ ap (λ g. offer ρ p P g k ∷ []) (fun-ext (λ z. sym (replaced-act z at ρ n k p P)))
+    offers-act k ρ p P ∙ ap (λ g. offer ρ p P g k ∷ []) (fun-ext (λ z. sym (replaced-act bare z at ρ n k p P)))
 offersLocated (Process.if M N P Q) at ρ n k =
     elim (equal (written ρ M) (written ρ N)) as (λ b.
     offers k (elim b [ true ↦ settle P ρ n | false ↦ settle Q ρ n ]) ≡ map (located (λ x z.
@@ -294,4 +302,4 @@ offersLocated (Process.par P Q) at ρ n k =
 offersLocated (Process.repl P) at ρ n k =
     let m = names P ρ k in
     offers-of-repl-list k ρ P
-    ∙ part-offers P (at + 1) ρ k m (offersLocated P _ ρ k m) (kept ρ P) _ (λ x e z. replaced-copy x z P at ρ n k e)
+    ∙ part-offers P (at + 1) ρ k m (offersLocated P _ ρ k m) (kept ρ P) _ (λ x e z. replaced-copy bare z at ρ n k x P e)

@@ -12,7 +12,8 @@ use Rattle.meaning.specs.Steps.State.{Bound, _▸_, written, act, repl}
 use Rattle.meaning.specs.Judging.Limits.{over}
 use Rattle.meaning.proofs.Test.{chosen as tested}
 use Rattle.states.specs.Course.{Going, Course, further, unless, named, returned, push}
-use Rattle.threads.specs.Machine.{holds, opening, taking, opened, built, atPrefix, builtCopy, atRepl, go}
+use Rattle.threads.specs.Machine.{holds, opening, taking, opened, builtCopy, atRepl}
+use Rattle.walks.specs.Walking.{built, atPrefix, go}
 use Rattle.positions.specs.Located.{inside}
 use Rattle.threads.specs.declared.task.Task.{Task}
 use Rattle.threads.specs.declared.task.Task.the-variants.{Build, BuildIn}

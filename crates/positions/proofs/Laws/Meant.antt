@@ -13,7 +13,7 @@ use Rattle.meaning.proofs.Every.{every-split}
 use Rattle.states.specs.Place.{rightAt}
 use Rattle.positions.specs.Located.{inside}
 use Rattle.states.specs.Course.{Course}
-use Rattle.threads.specs.Machine.{go}
+use Rattle.walks.specs.Walking.{go}
 use Rattle.positions.specs.Sought.{Opened, copies}
 use Rattle.threads.specs.declared.task.Task.{Task}
 use Rattle.positions.proofs.Laws.Located.{size, Part, inside-bounds}

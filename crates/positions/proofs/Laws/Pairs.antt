@@ -14,8 +14,8 @@ use Rattle.meaning.specs.Steps.Enumeration.{cuts, offers, joined, pairsAt}
 use Rattle.meaning.proofs.Test.{chosen as tested}
 use Rattle.meaning.proofs.Every.{every-map}
 use Rattle.states.specs.Place.{thenAt, elseAt, rightAt}
-use Rattle.positions.specs.Located.{Acting, acting}
-use Rattle.positions.specs.Joint.{matching, actingBut, pairs, bothReplaced, met}
+use Rattle.positions.specs.Located.{Acting, acting, prefixed, bare}
+use Rattle.positions.specs.Joint.{matching, actingBut, pairs, bothReplaced, met, bothReplacedAs}
 use Rattle.positions.proofs.Laws.Located.{new-part, then-part, else-part, let-part, left-part, right-part, repl-part, part-inside}
 use Rattle.positions.proofs.Laws.Located.{at-inside, left-only, acting-inside, replaced-act}
 use Rattle.positions.proofs.Laws.Located.{located, offers-none, offers-one, offersLocated}
@@ -29,9 +29,6 @@ Places = List Thread → List Thread → List Thread
 -- The meetings of two offers, none or one.
 abbrev pub joining : Acting → Acting → Places → List Meeting
 joining a b f = joined f (located (λ x z. z) a) (located (λ x z. z) b)
-
-abbrev prefixed : Acting → Prefix → Acting
-prefixed a p = record { place = a .place; bound = a .bound; prefix = p; rest = a .rest; next = a .next }
 
 module _ (a b : Acting) where
   -- Two offers of the definitions, and a pair, as such meetings.
@@ -199,12 +196,12 @@ module _ {L R : Block} (P Q : Process) (at : ℕ) (ρ : Bound) (n : ℕ) (h : Be
   -- Two blocks may be taken for one.
   first-same : (k : ℕ) (os : List Acting) → senders (L beside first-block beside (second-block beside R)) k os
       ≡ senders (L beside block (Process.par P Q) at ρ n beside R) k os
-  unfolding senders actingBut bothReplaced
+  unfolding senders actingBut bothReplacedAs
   first-same k os = simp append-assoc
 
   second-same : (k : ℕ) (os : List Acting) → senders (L beside first-block beside second-block beside R) k os
       ≡ senders (L beside block (Process.par P Q) at ρ n beside R) k os
-  unfolding senders actingBut bothReplaced
+  unfolding senders actingBut bothReplacedAs
   second-same k os = simp append-assoc
 
 -- That the pairs with a sender in a process are those with positions, the process being between L and R.
@@ -213,7 +210,7 @@ PairedAt L R P at ρ n k =
     overCuts (pairsAt k) (L .threads) (settle P ρ n) (R .threads) ≡ senders (L beside block P at ρ n beside R) k (acting P at ρ n k)
 
 paired : (P : Process) (at : ℕ) (ρ : Bound) (n k : ℕ) {L R : Block} → Between L (Within at P) R → PairedAt L R P at ρ n k
-unfolding settle acting actingBut bothReplaced senders overCuts flatMap
+unfolding settle acting actingBut bothReplacedAs senders overCuts flatMap
 paired Process.nil at ρ n k h = refl
 paired (Process.new P) at ρ n k h = paired P _ _ _ k (narrowed h (λ x. part-inside x (new-part at P)))
 paired (Process.act p P) at ρ n k h =
@@ -221,7 +218,7 @@ paired (Process.act p P) at ρ n k h =
     (record {
       covered = at-inside at (Process.act p P);
       nobody = λ j. rw (eq-eqb at at refl, actingBut);
-      first = λ zx y zy j. rw (eq-eqb at at refl, bothReplaced) (sym (replaced-act zx at ρ n k p P));
+      first = λ zx y zy j. rw (eq-eqb at at refl, bothReplacedAs) (sym (replaced-act bare zx at ρ n k p P));
     } also none)
 paired (Process.if M N P Q) at ρ n k {L} {R} h =
     go (equal (written ρ M) (written ρ N)) refl (paired P _ ρ n k (narrowed h (λ x. part-inside x (then-part at M N P Q))))
@@ -229,8 +226,8 @@ paired (Process.if M N P Q) at ρ n k {L} {R} h =
   where
     go : (c : Bool) → equal (written ρ M) (written ρ N) ≡ c → PairedAt L R P (thenAt at M N) ρ n k → PairedAt L R Q (elseAt at M N P) ρ n k
         → PairedAt L R (Process.if M N P Q) at ρ n k
-    go true e p q = rw (e, settle, acting, actingBut, bothReplaced) p
-    go false e p q = rw (e, settle, acting, actingBut, bothReplaced) q
+    go true e p q = rw (e, settle, acting, actingBut, bothReplacedAs) p
+    go false e p q = rw (e, settle, acting, actingBut, bothReplacedAs) q
 paired (Process.let-in M P) at ρ n k h = paired P _ _ n k (narrowed h (λ x. part-inside x (let-part at M P)))
 paired (Process.par P Q) at ρ n k {L} {R} h =
     let m = names P ρ n in
@@ -243,7 +240,7 @@ paired (Process.repl P) at ρ n k h =
     (every-map (λ a e. record {
       covered = part-inside (a .place) (repl-part at P) e;
       nobody = λ j. rw (e, actingBut);
-      first = λ zx y zy j. rw (e, bothReplaced);
+      first = λ zx y zy j. rw (e, bothReplacedAs);
     }) (acting-inside P (at + 1) ρ k (names P ρ k)))
 
 -- No thread; nothing left or right of a process.

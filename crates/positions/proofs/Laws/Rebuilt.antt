@@ -2,8 +2,8 @@
 -- nothing in it ("Steps"). Assumes nothing.
 use Prim.Native.Nat.{ℕ, _+_}
 use mathlib.Core.Path.{_≡_, refl, sym, _∙_, ap, ap₂}
-use mathlib.Core.Bool.{true, false}
-use mathlib.Core.List.{List, _++_, map-append}
+use mathlib.Core.Bool.{false}
+use mathlib.Core.List.{List, _++_, map-append, map-id}
 use lib.Dec.{eqb}
 use borrow.Author.Tests.{eq-eqb}
 use Rattle.meaning.specs.Messages.Normal.{equal}
@@ -14,14 +14,16 @@ use Rattle.meaning.proofs.Test.{chosen as tested}
 use Rattle.meaning.proofs.Every.{every-map, every-joined}
 use Rattle.states.specs.Place.{rightAt}
 use Rattle.states.specs.Record.{Placed}
-use Rattle.positions.specs.Located.{Acting, acting, inside, replaced}
-use Rattle.positions.specs.Joint.{Joint, bothReplaced, left}
+use Rattle.positions.specs.Located.{Acting, acting, inside, replaced, replacedAs}
+use Rattle.positions.specs.Joint.{Joint, bothReplaced, left, leftAs, bothReplacedAs}
 use Rattle.walks.specs.Settled.{settledAt, threadsOf}
-use Rattle.positions.specs.Rebuilt.{alone, replacedAt, bothReplacedAt, leftAt}
+use Rattle.positions.specs.Rebuilt.{alone, replacedAt, bothReplacedAt, leftAt, placedAt}
 use Rattle.positions.proofs.Laws.Everywhere.{every-and}
 use Rattle.positions.proofs.Laws.Leads.{said, Cases, by-cases}
-use Rattle.positions.proofs.Laws.Located.{new-part, then-part, else-part, let-part, left-part, right-part, repl-part}
-use Rattle.positions.proofs.Laws.Located.{part-outside, outside-first, part-first, Inside, acting-inside, left-only, right-only}
+use Rattle.positions.proofs.Laws.Located.{left-part, right-part}
+use Rattle.positions.proofs.Laws.Located.{part-outside, Inside, acting-inside, left-only, right-only}
+use Rattle.positions.proofs.Laws.Located.{outside-as}
+use Rattle.positions.proofs.Laws.Block.{both-outside}
 
 -- Lists with and without positions, by one test, and joined.
 abbrev Bare : List Placed → List Thread → Type 0
@@ -34,7 +36,7 @@ joined-bare ps qs e f = map-append (λ t. t .thread) ps qs ∙ ap₂ _++_ e f
 module _ (x : ℕ) (z : List Placed) where
   pub replaced-threads : (P : Process) (at : ℕ) (ρ : Bound) (n k : ℕ)
       → threadsOf (replacedAt x z P at ρ n k) ≡ replaced x (threadsOf z) P at ρ n k
-  unfolding replacedAt replaced
+  unfolding replacedAs
   replaced-threads Process.nil at ρ n k = refl
   replaced-threads (Process.new P) at ρ n k = replaced-threads P _ _ _ k
   replaced-threads (Process.act p P) at ρ n k = tested Bare (eqb at x) refl refl
@@ -50,24 +52,12 @@ module _ (x : ℕ) (z : List Placed) where
   -- Nothing is replaced at a position outside the process.
   pub replacedAt-outside : (P : Process) (at : ℕ) (ρ : Bound) (n k : ℕ) → inside x at P ≡ false
       → replacedAt x z P at ρ n k ≡ settledAt P at ρ n
-  unfolding replacedAt settledAt
-  replacedAt-outside Process.nil at ρ n k out = refl
-  replacedAt-outside (Process.new P) at ρ n k out = replacedAt-outside P _ _ _ k (part-outside x (new-part at P) out)
-  replacedAt-outside (Process.act p P) at ρ n k out = rw (outside-first x at (Process.act p P) out, replacedAt)
-  replacedAt-outside (Process.if M N P Q) at ρ n k out =
-      tested _≡_ (equal (written ρ M) (written ρ N)) (replacedAt-outside P _ ρ n k (part-outside x (then-part at M N P Q) out))
-      (replacedAt-outside Q _ ρ n k (part-outside x (else-part at M N P Q) out))
-  replacedAt-outside (Process.let-in M P) at ρ n k out = replacedAt-outside P _ _ n k (part-outside x (let-part at M P) out)
-  replacedAt-outside (Process.par P Q) at ρ n k out =
-      ap₂ _++_ (replacedAt-outside P _ ρ n k (part-outside x (left-part at P Q) out))
-      (replacedAt-outside Q _ ρ _ k (part-outside x (right-part at P Q) out))
-  replacedAt-outside (Process.repl P) at ρ n k out =
-      rw (outside-first x at (Process.repl P) out, part-outside x (repl-part at P) out, replacedAt)
+  replacedAt-outside P at ρ n k out = outside-as placedAt x z P at ρ n k out ∙ map-id (settledAt P at ρ n)
 
 module _ (x : ℕ) (zx : List Placed) (y : ℕ) (zy : List Placed) where
   pub both-threads : (P : Process) (at : ℕ) (ρ : Bound) (n k j : ℕ)
       → threadsOf (bothReplacedAt x zx y zy P at ρ n k j) ≡ bothReplaced x (threadsOf zx) y (threadsOf zy) P at ρ n k j
-  unfolding bothReplacedAt bothReplaced
+  unfolding bothReplacedAs
   both-threads Process.nil at ρ n k j = refl
   both-threads (Process.new P) at ρ n k j = both-threads P _ _ _ k j
   both-threads (Process.act p P) at ρ n k j = tested Bare (eqb at x) refl (replaced-threads y zy (Process.act p P) at ρ n j)
@@ -80,24 +70,8 @@ module _ (x : ℕ) (zx : List Placed) (y : ℕ) (zy : List Placed) where
       tested Bare (inside x (at + 1) P) (replaced-threads x zx (Process.repl P) at ρ n k)
       (replaced-threads y zy (Process.repl P) at ρ n j)
 
-  -- The first position outside the process: only the second one matters.
-  pub both-second : (P : Process) (at : ℕ) (ρ : Bound) (n k j : ℕ) → inside x at P ≡ false
-      → bothReplacedAt x zx y zy P at ρ n k j ≡ replacedAt y zy P at ρ n j
-  unfolding bothReplacedAt replacedAt
-  both-second Process.nil at ρ n k j out = refl
-  both-second (Process.new P) at ρ n k j out = both-second P _ _ _ k j (part-outside x (new-part at P) out)
-  both-second (Process.act p P) at ρ n k j out = rw (outside-first x at (Process.act p P) out, bothReplacedAt)
-  both-second (Process.if M N P Q) at ρ n k j out =
-      tested _≡_ (equal (written ρ M) (written ρ N)) (both-second P _ ρ n k j (part-outside x (then-part at M N P Q) out))
-      (both-second Q _ ρ n k j (part-outside x (else-part at M N P Q) out))
-  both-second (Process.let-in M P) at ρ n k j out = both-second P _ _ n k j (part-outside x (let-part at M P) out)
-  both-second (Process.par P Q) at ρ n k j out =
-      ap₂ _++_ (both-second P _ ρ n k j (part-outside x (left-part at P Q) out))
-      (both-second Q _ ρ _ k j (part-outside x (right-part at P Q) out))
-  both-second (Process.repl P) at ρ n k j out = rw (part-outside x (repl-part at P) out, bothReplacedAt)
-
 pub left-threads : (w : Joint) (zx zy : List Placed) → threadsOf (leftAt w zx zy) ≡ left w (threadsOf zx) (threadsOf zy)
-unfolding leftAt left
+unfolding leftAs
 left-threads w zx zy =
     let x = w .pair .sender .place in
     let y = w .pair .taker .place in
@@ -105,25 +79,10 @@ left-threads w zx zy =
     tested Bare (w .two) (joined-bare own _ (replaced-threads x zx (w .copied) _ _ _ _) (replaced-threads y zy (w .copied) _ _ _ _))
     (both-threads x zx y zy (w .copied) _ _ _ _ _)
 
--- A list in the place of a thread that acts, of a repl thread, and of a thread in its copy.
-module _ (z : List Placed) (at : ℕ) (ρ : Bound) (n k : ℕ) where
-  pub replacedAt-act : (p : Prefix) (P : Process) → replacedAt at z (Process.act p P) at ρ n k ≡ z
-  unfolding replacedAt
-  replacedAt-act p P = rw (eq-eqb at at refl, replacedAt)
-
-  pub replacedAt-repl : (P : Process) → replacedAt at z (Process.repl P) at ρ n k ≡ z
-  unfolding replacedAt
-  replacedAt-repl P = rw (eq-eqb at at refl, replacedAt)
-
-  pub replacedAt-copy : (x : ℕ) (P : Process) → inside x (at + 1) P ≡ true
-      → replacedAt x z (Process.repl P) at ρ n k ≡ replacedAt x z P (at + 1) ρ k (names P ρ k) ++ alone at (repl ρ P)
-  unfolding replacedAt
-  replacedAt-copy x P e = rw (part-first x (repl-part at P) e, e, replacedAt)
-
 -- Both positions outside the process.
 pub both-neither : (x : ℕ) (zx : List Placed) (y : ℕ) (zy : List Placed) (P : Process) (at : ℕ) (ρ : Bound) (n k j : ℕ)
     → inside x at P ≡ false → inside y at P ≡ false → bothReplacedAt x zx y zy P at ρ n k j ≡ settledAt P at ρ n
-both-neither x zx y zy P at ρ n k j out out′ = both-second x zx y zy P at ρ n k j out ∙ replacedAt-outside y zy P at ρ n j out′
+both-neither x zx y zy P at ρ n k j out out′ = both-outside placedAt x zx y zy P at ρ n k j out ∙ replacedAt-outside y zy P at ρ n j out′
 
 -- The second position outside, and the first one that of an offer: only this matters.
 abbrev FirstOnly : Process → (at : ℕ) → Bound → (n k : ℕ) → Acting → Type 0
@@ -133,8 +92,8 @@ FirstOnly P at ρ n k a =
 
 first-act : (p : Prefix) (P : Process) (at : ℕ) (ρ : Bound) (n k : ℕ)
     → FirstOnly (Process.act p P) at ρ n k (record { place = at; bound = ρ; prefix = p; rest = P; next = k })
-unfolding bothReplacedAt replacedAt
-first-act p P at ρ n k zx y zy j out = rw (eq-eqb at at refl, bothReplacedAt, replacedAt)
+unfolding bothReplacedAs replacedAs
+first-act p P at ρ n k zx y zy j out = rw (eq-eqb at at refl, bothReplacedAs, replacedAs)
 
 first-still : (P : Process) (at : ℕ) (ρ : Bound) (n k : ℕ) (a : Acting) → inside (a .place) at P ≡ false → FirstOnly P at ρ n k a
 first-still P at ρ n k a out zx y zy j out′ =
@@ -142,12 +101,12 @@ first-still P at ρ n k a out zx y zy j out′ =
 
 first-par : (P Q : Process) (at : ℕ) (ρ : Bound) (n k : ℕ) (a : Acting) → FirstOnly P (at + 1) ρ n k a
     → FirstOnly Q (rightAt at P) ρ (names P ρ n) k a → FirstOnly (Process.par P Q) at ρ n k a
-unfolding bothReplacedAt replacedAt
+unfolding bothReplacedAs replacedAs
 first-par P Q at ρ n k a e f zx y zy j out =
     ap₂ _++_ (e zx y zy j (part-outside y (left-part at P Q) out)) (f zx y zy j (part-outside y (right-part at P Q) out))
 
 first-cases : Cases (λ P at ρ n. (k : ℕ) → Every (FirstOnly P at ρ n k) (acting P at ρ n k))
-unfolding said acting bothReplacedAt
+unfolding said acting bothReplacedAs
 first-cases = record {
   lead = λ l h k.
       rw (ap (λ s. s .offers k) (l .same))
@@ -163,7 +122,7 @@ first-cases = record {
       (every-map (λ a (e, i). first-par P Q at ρ n k a (first-still P _ ρ n k a (right-only (a .place) at P Q i)) e)
       (every-and (q k) (acting-inside Q _ ρ _ k)));
   copied = λ P at ρ n h k.
-      every-map (λ a (e : Inside (at + 1) P a) zx y zy j out. rw (e, bothReplacedAt)) (acting-inside P (at + 1) ρ k (names P ρ k));
+      every-map (λ a (e : Inside (at + 1) P a) zx y zy j out. rw (e, bothReplacedAs)) (acting-inside P (at + 1) ρ k (names P ρ k));
 }
 
 pub both-first : (P : Process) (at : ℕ) (ρ : Bound) (n k : ℕ) → Every (FirstOnly P at ρ n k) (acting P at ρ n k)

@@ -1,11 +1,11 @@
 -- What a walk finds that seeks an offer of a process that meets no limit ("Steps"). Assumes nothing.
 use Prim.Native.Nat.{ℕ, _+_, _-_}
 use native.Mathlib.Omega.{arith}
-use mathlib.Core.Path.{_≡_, refl, sym, _∙_}
-use mathlib.Core.Bool.{Bool, true, false, not, _&&_, _||_, true≢false}
+use mathlib.Core.Path.{_≡_, refl, sym}
+use mathlib.Core.Bool.{Bool, true, false, not, _&&_, _||_}
 use mathlib.Core.List.{[], _∷_}
 use lib.Dec.{ltb, eqb}
-use borrow.Author.Tests.{ltb-true, ltb-false, lt-ltb, le-ltb, eqb-true, eqb-false, eq-eqb, ne-eqb}
+use borrow.Author.Tests.{eqb-true, eqb-false, eq-eqb, ne-eqb}
 use Rattle.meaning.specs.Messages.Term.{Message}
 use Rattle.meaning.specs.Messages.Normal.{same}
 use Rattle.meaning.specs.Bytes.Process.{Prefix, output, input, Process}
@@ -13,31 +13,20 @@ use Rattle.meaning.specs.Steps.State.{Bound, worked, names, settle}
 use Rattle.meaning.specs.Logic.Truth.{anyOf}
 use Rattle.meaning.specs.Judging.Limits.{over, overSettling, overPrefix, overOffers}
 use Rattle.meaning.proofs.Test.{neither}
-use Rattle.positions.specs.Located.{Acting, acting, inside}
+use Rattle.positions.specs.Located.{Acting, inside}
 use Rattle.positions.specs.Joint.{actingBut}
 use Rattle.states.specs.Course.{Going, Course, going, found, unless, named}
-use Rattle.threads.specs.Machine.{holds, opening, sought, atPrefix, atRepl, go}
+use Rattle.threads.specs.Machine.{holds, opening, sought, atRepl}
+use Rattle.walks.specs.Walking.{atPrefix, go}
 use Rattle.positions.specs.Sought.{wanted, sentBy, first, offersBut}
 use Rattle.threads.specs.declared.task.Task.the-variants.{Seek}
 use Rattle.threads.specs.declared.task.Quest.{Quest}
 use Rattle.positions.proofs.Laws.Located.{size, outside, Part, outside-first, part-outside}
 use Rattle.positions.proofs.Laws.Located.{new-part, then-part, else-part, let-part, left-part, right-part, repl-part}
-use Rattle.positions.proofs.Laws.Block.{block-laws}
+use Rattle.positions.proofs.Laws.Block.{others-outside}
 use Rattle.positions.proofs.Laws.Clear.{Clear, done, made, acts, then, else, body, both, copy, clear}
 use Rattle.positions.proofs.Laws.Walks.{Walks, walks-new, walks-then, walks-else, walks-body, walks-both, walks-copy, first-picks}
-
--- A test for less, turned round.
-ltb-turn : (a b : ℕ) → ltb a (b + 1) ≡ not (ltb b a)
-ltb-turn a b = by-test (ltb b a) refl
-  where
-    by-test : (t : Bool) → ltb b a ≡ t → ltb a (b + 1) ≡ not t
-    by-test true e = le-ltb a (b + 1) (omega (arith, ltb-true b a e))
-    by-test false e = lt-ltb a (b + 1) (omega (arith, ltb-false b a e))
-
--- Two negations.
-not-not : (b : Bool) → not (not b) ≡ b
-not-not true = refl
-not-not false = refl
+use Rattle.positions.proofs.Laws.Marks.{holds-inside, holds-none}
 
 -- A test on positions is one on their marks.
 eqb-marks : (a b : ℕ) → eqb (a + 1) (b + 1) ≡ eqb a b
@@ -46,15 +35,6 @@ eqb-marks a b = by-test (eqb a b) refl
     by-test : (t : Bool) → eqb a b ≡ t → eqb (a + 1) (b + 1) ≡ t
     by-test true e = eq-eqb (a + 1) (b + 1) (omega (arith, eqb-true a b e))
     by-test false e = ne-eqb (a + 1) (b + 1) (λ s. eqb-false a b e (omega arith))
-
--- A process holds the mark of a position that is inside it, and never the mark 0.
-pub holds-inside : (x at : ℕ) (P : Process) → holds (x + 1) at P ≡ inside x at P
-unfolding holds inside
-holds-inside x at P = rw (ltb-turn at x, ltb-turn (at + size P) x, not-not (ltb x (at + size P)))
-
-pub holds-none : (at : ℕ) (P : Process) → holds 0 at P ≡ false
-unfolding holds
-holds-none at P = rw (le-ltb at 0 (omega arith))
 
 -- What the tests say of the mark of a position.
 module _ (x : ℕ) {mark : ℕ} (e : mark ≡ x + 1) where
@@ -82,10 +62,6 @@ module _ {but z at : ℕ} {P : Process} where
   marks-first : Marks but z at P → eqb (at + 1) but ≡ eqb at z
   marks-first (marked e) = first-mark z e at
   marks-first (unmarked e out) = rw (e, outside-first z at P out) (ne-eqb (at + 1) 0 (λ s. omega arith))
-
--- At a position outside a process none of its offers is left out.
-others-outside : (z : ℕ) (P : Process) (at : ℕ) (ρ : Bound) (n k : ℕ) → inside z at P ≡ false → actingBut z P at ρ n k ≡ acting P at ρ n k
-others-outside z P at ρ n k out = block-laws P at ρ n .everyone z k (λ i. true≢false (sym i ∙ out))
 
 -- An offer is looked at, unless e says that it is left out; two tests for limits are passed.
 picked : (q : Quest) (x : Message) (a : Acting) {o u : Bool} (b e c : Bool) (d : Course) → o ≡ false → u ≡ false → wanted q x a ≡ (b && c)

@@ -12,7 +12,8 @@ use Rattle.meaning.specs.Logic.Truth.{anyOf}
 use Rattle.meaning.specs.Judging.Limits.{overSettling, overOffers}
 use Rattle.positions.specs.Located.{Acting, inside}
 use Rattle.states.specs.Course.{Going, going, named}
-use Rattle.threads.specs.Machine.{opening, atPrefix, soughtIn, atRepl, go}
+use Rattle.threads.specs.Machine.{opening, soughtIn, atRepl}
+use Rattle.walks.specs.Walking.{atPrefix, go}
 use Rattle.positions.specs.Sought.{first, offersBut, Opened, copies}
 use Rattle.threads.specs.declared.task.Task.the-variants.{Seek, SeekIn}
 use Rattle.threads.specs.declared.task.Quest.{Quest}

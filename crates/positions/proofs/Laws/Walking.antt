@@ -16,7 +16,8 @@ use Rattle.meaning.proofs.Judging.Alike.{copiesAlike}
 use Rattle.states.specs.Place.{rightAt}
 use Rattle.states.specs.Record.{Placed}
 use Rattle.states.specs.Course.{Going, Course, further, named, push}
-use Rattle.threads.specs.Machine.{opening, opened, atPrefix, atRepl, go}
+use Rattle.threads.specs.Machine.{opening, opened, atRepl}
+use Rattle.walks.specs.Walking.{atPrefix, go}
 use Rattle.walks.specs.Settled.{settledAt}
 use Rattle.positions.specs.Rebuilt.{alone}
 use Rattle.threads.specs.declared.task.Task.{Task}
@@ -55,7 +56,7 @@ free-copy P {ρ} {n} {k} f =
     record { settling = s; offering = o′ }
 
 -- Copies that open at another name meet the same limits.
-any-later : {m : ℕ} (k j : ℕ) → m ≤ k → m ≤ j → {ts : List Thread} → Every (ThreadStored m) ts
+pub any-later : {m : ℕ} (k j : ℕ) → m ≤ k → m ≤ j → {ts : List Thread} → Every (ThreadStored m) ts
     → anyOf (λ t. overOffers t k) ts ≡ anyOf (λ t. overOffers t j) ts
 unfolding anyOf
 any-later k j l l′ none = refl

@@ -12,7 +12,8 @@ use Rattle.meaning.proofs.Test.{chosen as tested}
 use Rattle.states.specs.Place.{thenAt, elseAt, bodyAt, rightAt}
 use Rattle.positions.specs.Located.{Acting}
 use Rattle.states.specs.Course.{Going, Course, going, further, named, returned}
-use Rattle.threads.specs.Machine.{opening, opened, go}
+use Rattle.threads.specs.Machine.{opening, opened}
+use Rattle.walks.specs.Walking.{go}
 use Rattle.positions.specs.Sought.{wanted, first, Opened, firstCopy}
 use Rattle.threads.specs.declared.task.Task.{Task}
 use Rattle.threads.specs.declared.task.Quest.{Quest}

@@ -12,7 +12,8 @@ use Rattle.meaning.specs.Logic.Truth.{anyOf}
 use Rattle.meaning.specs.Judging.Limits.{overSettling, overOffers}
 use Rattle.states.specs.Record.{Placed}
 use Rattle.states.specs.Course.{Going, Course, going, over-limit, found, further, unless, named, returned, push}
-use Rattle.threads.specs.Machine.{opening, opened, go}
+use Rattle.threads.specs.Machine.{opening, opened}
+use Rattle.walks.specs.Walking.{go}
 use Rattle.walks.specs.Settled.{settledAt}
 use Rattle.positions.specs.Rebuilt.{alone, pushAll}
 use Rattle.threads.specs.declared.task.Task.{Task}

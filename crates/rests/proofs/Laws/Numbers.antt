@@ -37,19 +37,18 @@ use Rattle.positions.specs.Located.{Acting, acting}
 use Rattle.positions.specs.Joint.{actingBut}
 use Rattle.positions.specs.Sought.{Opened, offersBut}
 use Rattle.positions.proofs.Laws.Walking.{Free, free-later}
-use Rattle.moves.specs.Outcome.{boundAfter}
-use Rattle.walks.specs.Visit.{Begins}
-use Rattle.walks.specs.Visit.{nothingYet}
-use Rattle.rests.specs.Reach.{offerSite, copySite, Allowed, Arrives, Reaches, countOf, CountsRest}
+use Rattle.forms.specs.Visit.{Begins}
+use Rattle.forms.specs.Visit.{nothingYet}
+use Rattle.ways.specs.Reach.{offerSite, copySite, Allowed, Reaches, CountsRest}
 use Rattle.moves.specs.CopyOffers.{ThreadAt, copyOffers}
-use Rattle.rests.specs.Numbers.{Comes, Entered, Enters, CountsCopy, Counts, CountsIn}
-use Rattle.rests.specs.declared.reach.Reached.{Reached}
-use Rattle.rests.specs.declared.count.Counted.{Counted}
+use Rattle.rests.specs.Numbers.{Comes, Entered, Enters, CountsCopy, Counts, CountsIn, CountsBehind}
+use Rattle.ways.specs.declared.reach.Reached.{Reached}
+use Rattle.ways.specs.declared.count.Counted.{Counted}
 use Rattle.moves.proofs.Laws.LimitsPairs.{but-every}
-use Rattle.walks.proofs.Laws.Visit.{bound-short, names-small}
-use Rattle.rests.proofs.Laws.ReachDown.{offers-down, copies-down}
-use Rattle.rests.proofs.Laws.ReachUse.{reached-offers, arrived-copy, arrived-rest, thread-prepared, thread-allowed}
-use Rattle.walks.proofs.Laws.Visit.{begins-shown, behind}
+use Rattle.forms.proofs.Laws.Visit.{bound-short, names-small}
+use Rattle.ways.proofs.Laws.ReachDown.{offers-down, copies-down}
+use Rattle.ways.proofs.Laws.ReachOffers.{reached-offers, arrived-copy, arrived-rest, thread-prepared, thread-allowed}
+use Rattle.forms.proofs.Laws.Visit.{begins-shown, behind}
 use Rattle.moves.proofs.Laws.Opened.{names-later, opened-all, judged-clear}
 
 -- What holds at every place of a list holds at one that is listed.
@@ -91,28 +90,26 @@ thread-arrives {k} {now} d w b f = record {
 }
 
 -- What follows an offer that was reached is counted.
-rest-counted : {s label m out out₁ : List ℕ} {to high n i : ℕ} {r : Reached} {now : Progress} {c : Counted} {x : Message} (a : Acting)
-    → Arrives s label m r x (offerSite a i) → n ≤ 28664 → to + 3964 ≤ length out → Within to high out out₁ → Begins to n now
-    → CountsRest s label (r .at) (r .left) m (r .end) n out₁ now c → c ≡ countOf (a .rest) (boundAfter x a) n
-rest-counted {n} {now} a d small room w b f =
-    arrived-rest a (nothingYet n) d f (names-fitting n (Process.act (a .prefix) (a .rest)) (d .prepared .process) (d .prepared .short) small)
-    (begins-shown now b (omega (arith, w .long)))
-
-module _ {s label m m₁ out : List ℕ} {at k to mark n : ℕ} {r : Reached} {c : Counted} (f : Comes s label at k to m mark out r m₁) where
-  pub count-there : {out₁ : List ℕ} {high : ℕ} {now : Progress} → Within to high out out₁ → Begins to n now
-      → CountsRest s label (r .at) (r .left) m₁ (r .end) n out₁ now c → Counts s label at k to m mark n out c
-  count-there w b g = record {
-    exact = λ t x before after a h i later small few listed e.
-        let (j, d) = listed-one before a after listed (offers-down (processOf (t .thread)) (t .place) (boundOf (t .thread)) 0 k) in
-        rest-counted a (f .exact t x (offerSite a j) h i later small d e) few (h .room) w b g;
+module _ {s label m out : List ℕ} {to n : ℕ} {r : Reached} {c : Counted} where
+  pub behind-there : {now : Progress} → Begins to n now → CountsRest s label (r .at) (r .left) m (r .end) n out now c
+      → CountsBehind s label r to m n out c
+  behind-there {now} b f = record {
+    exact = λ x a d small room.
+        arrived-rest a (nothingYet n) d f (names-fitting n (Process.act (a .prefix) (a .rest)) (d .prepared .process) (d .prepared .short) small)
+        (begins-shown now b room);
   }
 
-  pub count-nowhere : r .there ≡ false → Counts s label at k to m mark n out c
-  count-nowhere off = record {
-    exact = λ t x before after a h i later small few listed e.
-        let (j, d) = listed-one before a after listed (offers-down (processOf (t .thread)) (t .place) (boundOf (t .thread)) 0 k) in
-        absurd (true≢false (sym (f .exact t x (offerSite a j) h i later small d e .there) ∙ off));
-  }
+  pub behind-nowhere : r .there ≡ false → CountsBehind s label r to m n out c
+  behind-nowhere off = record { exact = λ x a d small room. absurd (true≢false (sym (d .there) ∙ off)) }
+
+pub count-behind : {s label m m₁ out out₁ : List ℕ} {at k to mark n high : ℕ} {r : Reached} {c : Counted}
+    → Comes s label at k to m mark out r m₁ → Within to high out out₁ → CountsBehind s label r to m₁ n out₁ c
+    → Counts s label at k to m mark n out c
+count-behind {k = k} f w g = record {
+  exact = λ t x before after a h i later small few listed e.
+      let (j, d) = listed-one before a after listed (offers-down (processOf (t .thread)) (t .place) (boundOf (t .thread)) 0 k) in
+      g .exact x a (f .exact t x (offerSite a j) h i later small d e) few (omega (arith, h .room, w .long));
+}
 
 -- The offers of a copy are some of the offers of what is copied.
 some-offers : (but : ℕ) {Q : Acting → Type 0} (P : Process) (at : ℕ) (ρ : Bound) (n k : ℕ) → Every Q (acting P at ρ n k)
@@ -203,15 +200,12 @@ module _ {s label m out : List ℕ} {to mark : ℕ} {thread r : Reached} {c : Co
 
 pub ruleset entering = (enter-same, enter-second, enter-short, enter-past)
 
-module _ {s label m m₁ out : List ℕ} {to mark n : ℕ} {thread r : Reached} {c : CopyAt} {v : Counted}
-    (f : Enters s label thread to m c mark out r m₁) where
-  pub copy-there : {out₁ : List ℕ} {high : ℕ} {now : Progress} → Within to high out out₁ → Begins to n now
-      → CountsRest s label (r .at) (r .left) m₁ (r .end) n out₁ now v → CountsCopy s label thread to m c mark n out v
-  copy-there w b g =
-      record { exact = λ x o a e small. let (i, d) = f .exact x o a e in rest-counted a d small (e .room) w b g }
-
-  pub copy-nowhere : r .there ≡ false → CountsCopy s label thread to m c mark n out v
-  copy-nowhere off = record { exact = λ x o a e small. absurd (true≢false (sym (f .exact x o a e .1 .there) ∙ off)) }
+pub copy-behind : {s label m m₁ out out₁ : List ℕ} {to mark n high : ℕ} {thread r : Reached} {c : CopyAt} {v : Counted}
+    → Enters s label thread to m c mark out r m₁ → Within to high out out₁ → CountsBehind s label r to m₁ n out₁ v
+    → CountsCopy s label thread to m c mark n out v
+copy-behind f w g = record {
+  exact = λ x o a e small. let (i, d) = f .exact x o a e in g .exact x a d small (omega (arith, e .room, w .long));
+}
 
 module _ {s label m m₁ out : List ℕ} {at k to mark n : ℕ} {thread : Reached} {c : CopyAt} {v : Counted}
     (f : Comes s label at k to m (c .place) out thread m₁) where
@@ -245,7 +239,7 @@ module _ {s label m m₁ out : List ℕ} {at k to mark n : ℕ} {thread : Reache
         absurd (true≢false (sym (f .exact t x (copySite w j) h i (le-refl k) (omega (arith, h .few)) d place .there) ∙ off));
   }
 
-pub ruleset counting = (count-there, count-nowhere, copy-there, copy-nowhere, in-there, in-nowhere)
+pub ruleset counting = (behind-there, behind-nowhere, count-behind, copy-behind, in-there, in-nowhere)
 
 -- What two calls write stands behind the state, and in m anywhere.
 pub behind-twice : {to n : ℕ} {now : Progress} {out out₁ out₂ : List ℕ} {high high₁ : ℕ} → Begins to n now → Within to high out out₁

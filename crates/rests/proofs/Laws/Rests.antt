@@ -3,30 +3,26 @@ use Prim.Native.Nat.{ℕ, _+_, _-_, _≤_, _<_}
 use native.Mathlib.Omega.{arith}
 use native.Mathlib.Nat.{le-refl}
 use mathlib.Core.Path.{_≡_, refl, sym, _∙_, ap, subst}
-use mathlib.Core.Bool.{Bool, true, false}
 use mathlib.Core.List.{List, _∷_, _++_}
-use lib.Dec.{eqb}
-use borrow.Author.Tests.{eqb-true, eqb-false}
 use Rattle.states.specs.Record.{Placed}
 use Rattle.states.specs.declared.state.State as code
 use Rattle.threads.specs.declared.task.CopyAt.{CopyAt}
-use Rattle.positions.specs.Joint.{Pair}
-use Rattle.positions.specs.Sought.{Opened}
 use Rattle.moves.specs.Spot.{recordAt, offersOf}
-use Rattle.moves.specs.CopyOffers.{ThreadAt, takersAt, butOf, jointWith}
-use Rattle.moves.specs.Step.{stepOf, modeOf}
+use Rattle.moves.specs.CopyOffers.{ThreadAt, takersAt, butOf}
+use Rattle.moves.specs.Step.{stepOf}
 use Rattle.rests.specs.Numbers.{Counts, CountsIn}
-use Rattle.rests.specs.Rests.{onlyOf, thenOf, CountsActor, CountsTaker}
+use Rattle.rests.specs.Rests.{onlyOf, thenOf, CountsActor, CountsTaker, stepCopies}
 use Rattle.moves.specs.declared.step.Step as step
 use Rattle.moves.specs.declared.step.Actor.{Actor}
-use Rattle.rests.specs.declared.count.Counted.{Counted}
-use Rattle.rests.specs.declared.count.Counted.the-variants as counted
+use Rattle.ways.specs.declared.count.Counted.{Counted}
+use Rattle.ways.specs.declared.count.Counted.the-variants as counted
 use Rattle.rests.specs.declared.names.Rests.the-variants as rests
-use Rattle.moves.proofs.Laws.Front.{record-size}
+use Rattle.moves.proofs.Laws.Records.{record-long}
+use Rattle.moves.proofs.Laws.CopyMoves.{mode-of}
 
 -- A record that stands before a position takes at least four bytes of those before it.
 record-below : {s out m : List ℕ} {at k to : ℕ} (t : Placed) → ThreadAt s out m at k to t → at + 4 ≤ to
-record-below t h = omega (arith, h .recorded .stands .size, record-size t, h .below)
+record-below t h = omega (arith, h .recorded .stands .size, record-long t, h .below)
 
 -- So where there is no room for one, nothing is to be counted.
 module _ {s : List ℕ} {st : code.State} {message m out : List ℕ} {n : ℕ} {r : Counted} where
@@ -63,14 +59,6 @@ module _ {s : List ℕ} {st : code.State} {message m out : List ℕ} {n : ℕ} {
         (omega (arith, h .few)) few e (ap (λ (w : Actor). w .mark) f);
   }
 
--- The mode of a step tells whether one copy takes part, or two.
-mode-of : (mode : ℕ) (w : Opened) (u : Pair) → 1 ≤ mode → mode ≤ 2 → modeOf (jointWith mode w u) ≡ mode
-mode-of mode w u low high = by-test (eqb mode 2) refl
-  where
-    by-test : (b : Bool) → eqb mode 2 ≡ b → elim b [ true ↦ 2 | false ↦ 1 ] ≡ mode
-    by-test true e = sym (eqb-true mode 2 e)
-    by-test false e = let f = eqb-false mode 2 e in omega (arith, f)
-
 -- The copies of a taker in another thread open after those of the sender; one in the copies of a repl thread takes in these.
 module _ {s : List ℕ} {st : code.State} {message m out : List ℕ} {n : ℕ} {r : Counted} {v : step.Step} where
   pub taker-between : v .mode ≡ 0 → Counts s message (v .taker .at) (v .sender .next) (st .end) m (v .taker .mark) n out r
@@ -87,26 +75,21 @@ module _ {s : List ℕ} {st : code.State} {message m out : List ℕ} {n : ℕ} {
         absurd (omega (arith, mode-of mode w u low (later .mode), ap (λ (w : step.Step). w .mode) f));
   }
 
-  pub taker-inside : (v .mode ≡ 0 → ⊥)
-      → CountsIn s message (v .taker .at) (st .names) (st .end) m (record { place = v .copy; mode = v .mode; second = v .sender .next })
-      (v .taker .mark) n out r
-      → CountsTaker s st v n message m out r
+  pub taker-inside : {c : CopyAt} → (v .mode ≡ 0 → ⊥) → c ≡ stepCopies v
+      → CountsIn s message (v .taker .at) (st .names) (st .end) m c (v .taker .mark) n out r → CountsTaker s st v n message m out r
   unfolding stepOf
-  taker-inside e c = record {
+  taker-inside e own c = record {
     between = λ p q u x before after h i low small few g f. absurd (e (ap (λ (w : step.Step). w .mode) f));
     inside = λ p mode w u x pre post before after h i g low later few j f.
         let here : recordAt (st .start) p ≡ v .taker .at = sym (ap (λ (w : step.Step). w .taker .at) f) in
         let there = subst (λ i. ThreadAt s out m i (st .names) (st .end) (p .thread)) here h in
-        let same : copyAt ≡ takersAt mode w (u .sender) =
-        ap (λ (w : step.Step). record { place = w .copy; mode = w .mode; second = w .sender .next }) f
+        let same : _≡_ {A = CopyAt} _ (takersAt mode w (u .sender)) =
+        own ∙ ap stepCopies f
         ∙ ap (λ (i : ℕ). record { place = w .place + 1; mode = i; second = u .sender .next }) (mode-of mode w u low (later .mode)) in
         let count = subst (λ (i : CopyAt). CountsIn s message (v .taker .at) (st .names) (st .end) m i (v .taker .mark) n out r) same c in
         count .exact (p .thread) x pre post w before after (u .taker) there i few g refl low later (butOf mode (u .sender)) j
         (ap (λ (w : step.Step). w .taker .mark) f);
   }
-    where
-      copyAt : CopyAt
-      copyAt = record { place = v .copy; mode = v .mode; second = v .sender .next }
 
 pub ruleset actors = (actor-none, actor-short, actor-counted)
 

@@ -17,10 +17,10 @@ use Rattle.states.specs.Record.{Placed, processOf, boundOf}
 use Rattle.walks.specs.News.{news, laterNews}
 use Rattle.walks.proofs.Laws.Course.{names-fit}
 use Rattle.walks.proofs.Laws.Fits.{later-fewer}
-use Rattle.positions.specs.Located.{Acting, acting}
-use Rattle.positions.specs.Joint.{Pair, matching, actingBut, Joint}
+use Rattle.positions.specs.Located.{Acting, acting, prefixed}
+use Rattle.positions.specs.Joint.{Pair, matching, actingBut, Joint, pairOf}
 use Rattle.positions.specs.Sought.{wanted, offersBut, Opened, copies}
-use Rattle.positions.proofs.Laws.Everywhere.{every-and, every-mapped, every-flatMap}
+use Rattle.positions.proofs.Laws.Everywhere.{every-and, every-mapped, every-flatMap, matching-every}
 use Rattle.moves.specs.Spot.{Spot, spots, offersOf, copiesOf}
 use Rattle.moves.specs.Moves.{Move, alone, inside, between, offered, labelledMoves, others, takers, meetings, silentMoves}
 use Rattle.moves.specs.Outcome.{boundAfter}
@@ -30,11 +30,10 @@ use Rattle.moves.specs.Behind.{movesOf}
 use Rattle.moves.specs.declared.step.Label.{Label}
 use Rattle.moves.specs.declared.step.Label.the-variants.{Output, Input, Silent}
 use Rattle.moves.proofs.Laws.LimitsPairs.{but-every}
-use Rattle.moves.proofs.Laws.LimitsSpots.{every-filter}
-use Rattle.moves.proofs.Laws.Moves.{prefixed}
 use Rattle.moves.proofs.Laws.MovesSpots.{Stands, spots-stand}
 use Rattle.moves.proofs.Laws.Opened.{names-later, Acts, acting-all}
 use Rattle.moves.proofs.Laws.CopyMoves.{pairs-flat, silentMoves-parts}
+use Rattle.moves.proofs.Laws.MovesLists.{every-filter}
 
 -- An element of a list, with what comes before it and after it.
 module _ {A : Type 0} where
@@ -118,19 +117,9 @@ wanted-takes from but x a = of (a .prefix)
     of (output C M) e = absurd (let z : _≡_ {A = ℕ} 0 1 = cc in omega arith)
     of (input C) e = record { bound = λ z. refl }
 
-matching-both : {Q : Pair → Type 0} (a c : Acting) → (Sends a → Takes c → Q (record { sender = a; taker = c })) → Every Q (matching a c)
-unfolding matching
-matching-both {Q} a c = each (a .prefix) (c .prefix)
-  where
-    each : (p q : Prefix) → (Sends (prefixed a p) → Takes (prefixed c q) → Q (record { sender = prefixed a p; taker = prefixed c q }))
-        → Every Q (matching (prefixed a p) (prefixed c q))
-    each (output C M) (output D N) h = none
-    each (output C M) (input D) h =
-        elim (equal (written (a .bound) C) (written (c .bound) D)) as (λ b.
-        Every Q (elim b [ true ↦ record { sender = prefixed a (output C M); taker = prefixed c (input D) } ∷ [] | false ↦ [] ]))
-        [ true ↦ h (record { bound = λ z. refl }) (record { bound = λ z. refl }) also none | false ↦ none ]
-    each (input C) (output D N) h = none
-    each (input C) (input D) h = none
+matching-both : {Q : Pair → Type 0} (a c : Acting) → (Sends a → Takes c → Q (pairOf a c)) → Every Q (matching a c)
+matching-both {Q} a c =
+    matching-every (λ a c. Sends a → Takes c → Q (pairOf a c)) a c (λ C M D h. h (record { bound = λ z. refl }) (record { bound = λ z. refl }))
 
 -- The offers in a copy once more, and those of a second one, which come after the second name.
 but-some : (but : ℕ) {Q : Acting → Type 0} (P : Process) (at : ℕ) (ρ : Bound) (n k : ℕ) → Every Q (acting P at ρ n k)

@@ -13,14 +13,14 @@ use Rattle.meaning.proofs.Every.{every-split}
 use Rattle.messages.specs.Buffer.{Within}
 use Rattle.states.specs.declared.state.State as code
 use Rattle.walks.proofs.Laws.Course.{names-fit}
-use Rattle.positions.specs.Located.{Acting}
+use Rattle.positions.specs.Located.{Acting, prefixed}
 use Rattle.positions.specs.Joint.{Pair, Joint}
 use Rattle.positions.proofs.Laws.Copies.{split-at}
 use Rattle.moves.specs.Spot.{Spot, offersOf}
 use Rattle.moves.specs.Moves.{Move, alone, inside, between}
 use Rattle.moves.specs.Outcome.{boundAfter, lastOf, sentBy, outcome}
-use Rattle.walks.specs.Visit.{Labelled}
-use Rattle.rests.specs.Reach.{countedOf, countOf}
+use Rattle.forms.specs.Visit.{Labelled}
+use Rattle.ways.specs.Reach.{countedOf, countOf}
 use Rattle.moves.specs.CopyOffers.{jointWith}
 use Rattle.moves.specs.Step.{actor, stepOf}
 use Rattle.moves.specs.Held.{Held}
@@ -28,15 +28,16 @@ use Rattle.moves.specs.Moving.{carried, Moving, Leading}
 use Rattle.rests.specs.Rests.{lastFor, restsOf, onlyOf, thenOf, Settles, SettlesSilent, CountsActor, CountsTaker}
 use Rattle.moves.specs.declared.step.Step as step
 use Rattle.moves.specs.declared.step.Actor.{Actor}
+use Rattle.moves.specs.declared.step.Label.{Label}
 use Rattle.moves.specs.declared.step.Label.the-variants.{Output, Input, Silent}
-use Rattle.rests.specs.declared.count.Counted.{Counted}
-use Rattle.rests.specs.declared.count.Counted.the-variants as counted
+use Rattle.ways.specs.declared.count.Counted.{Counted}
+use Rattle.ways.specs.declared.count.Counted.the-variants as counted
 use Rattle.rests.specs.declared.names.Rests.{Rests}
 use Rattle.rests.specs.declared.names.Rests.the-variants as rests
-use Rattle.moves.proofs.Laws.Moves.{prefixed}
 use Rattle.moves.proofs.Laws.MovesSpots as spots
+use Rattle.moves.proofs.Laws.Threads.{thread-kept}
 use Rattle.rests.proofs.Laws.RestsMoves.{Among, Sends, Shared, Joined, Stood, moves-stood}
-use Rattle.rests.proofs.Laws.RestsThread.{thread-at, thread-kept, few-news, offer-acts}
+use Rattle.rests.proofs.Laws.RestsThread.{thread-at, later-few, offer-acts}
 
 -- The answers for one rest and for two.
 only-counted : (b : Bool) (n : ℕ) → onlyOf (countedOf b n) ≡ restsOf b 0 n
@@ -130,7 +131,7 @@ module _ {s out m message : List ℕ} {st : code.State} {S : State} (h : Held s 
       let t = thread-at h l p stands in
       let next : v .next ≡ a .next = ap (λ (w : Actor). w .next) e in
       let small = offer-acts (p .thread) a among .small in
-      let few = few-news (p .thread) t in
+      let few = later-few (p .thread) t in
       let n : v .next ≤ 28664 = omega (arith, next, small, few, t .few) in
       let same = count .exact p a (carried x (alone p a)) (among .before) (among .after) t i n (among .listed) e in
       let σ = boundAfter x a in
@@ -146,7 +147,7 @@ module _ {s out m message : List ℕ} {st : code.State} {S : State} (h : Held s 
       let a = u .sender in
       let t = thread-at h l p stands in
       let acts = offer-acts (p .thread) a among in
-      let few = few-news (p .thread) t in
+      let few = later-few (p .thread) t in
       let same = count .exact p a y (among .before) (among .after) t i (omega (arith, next, low, acts .small, few, t .few)) (among .listed) e in
       record {
         counts = same ∙ ap (λ (ρ : Bound). countOf (a .rest) ρ n) (sends .bound y) ∙ ap (countOf (a .rest) (a .bound)) next;
@@ -163,7 +164,7 @@ module _ {s out m message : List ℕ} {st : code.State} {S : State} (h : Held s 
   between-counted {v} {c} p q u sh e i count =
       let t = thread-at h l q (sh .taking) in
       let near : u .taker .next ≤ u .sender .next + 4096 =
-      omega (arith, offer-acts (q .thread) (u .taker) (sh .taker) .small, few-news (q .thread) t) in
+      omega (arith, offer-acts (q .thread) (u .taker) (sh .taker) .small, later-few (q .thread) t) in
       let sent = sender-counted p u (sh .sending) (sh .sender) (sh .sends) (ap (λ (w : step.Step). w .sender) e)
       (ap (λ (w : step.Step). w .taker .next) e) near (sentBy u) i count in
       record {
@@ -181,7 +182,7 @@ module _ {s out m message : List ℕ} {st : code.State} {S : State} (h : Held s 
   inside-counted {v} {c} p j jo e i count =
       let u = j .pair in
       let t = thread-at h l p (jo .stands) in
-      let near : u .taker .next ≤ u .sender .next + 4096 = omega (arith, jo .small .small, jo .few, few-news (p .thread) t) in
+      let near : u .taker .next ≤ u .sender .next + 4096 = omega (arith, jo .small .small, jo .few, later-few (p .thread) t) in
       let sent = sender-counted p u (jo .stands) (jo .sender) (jo .sends) (ap (λ (w : step.Step). w .sender) e)
       (ap (λ (w : step.Step). w .taker .next) e) near (sentBy u) i count in
       let f : v ≡ stepOf (st .start) (inside p (jointWith (jo .mode) (jo .copy) u)) =
@@ -242,41 +243,29 @@ module _ {s message m out : List ℕ} {st : code.State} {v : step.Step} {c : Cou
       → SettlesSilent s st v message m out r
   silent-both count e a w taking f = both-settled count (λ u b. f ∙ both-names e a w taking u b)
 
-  pub settles-output : {r : Rests} → v .label ≡ Output → CountsActor s st (v .sender) (st .names) (v .sender .next) message m out c
-      → r ≡ onlyOf c → Settles s st v message m out r
+  -- A step of one thread, by which of the two acts with its label.
+  settles-alone : {r : Rests} (label : Label) (who : step.Step → Actor) → ¬ (Silent ≡ label)
+      → ((p : Spot) (a : Acting) → stepOf (st .start) (alone p a) .label ≡ label → who (stepOf (st .start) (alone p a)) ≡ actor (st .start) p a)
+      → v .label ≡ label → CountsActor s st (who v) (st .names) (who v .next) message m out c → r ≡ onlyOf c → Settles s st v message m out r
   unfolding stepOf
-  settles-output {r} e count g = record { exact = λ S h x w mv l. of S h x l w (mv .same) (step-stood w mv) (mv .labelled) }
+  settles-alone {r} label who loud acts e count g =
+      record { exact = λ S h x w mv l. of S h x l w (mv .same) (step-stood w mv) (mv .labelled) }
     where
       of : (S : State) (h : Held s out st S) (x : Message) → Leading s st S m out → (w : Move)
           → v ≡ stepOf (st .start) w → Stood (st .names) (h .at .placed) w → Labelled message (carried x w)
           → let o = outcome (h .at .placed) (S .next) x w in r ≡ restsOf (o .large) (lastFor w) (o .next)
       of S h x l (alone p a) f stood i =
-          let own = sender-alone (st .start) p a (sym (ap (λ (w : step.Step). w .label) f) ∙ e) in
-          g ∙ alone-settled h l x p a stood (ap (λ (w : step.Step). w .sender) f ∙ own) i count
-      of S h x l (inside p j) f stood i =
-          let k : Silent ≡ Output = sym (ap (λ (w : step.Step). w .label) f) ∙ e in
-          absurd (let z : _≡_ {A = ℕ} 0 1 = cc in omega arith)
-      of S h x l (between p q u) f stood i =
-          let k : Silent ≡ Output = sym (ap (λ (w : step.Step). w .label) f) ∙ e in
-          absurd (let z : _≡_ {A = ℕ} 0 1 = cc in omega arith)
+          g ∙ alone-settled h l x p a stood (ap who f ∙ acts p a (sym (ap (λ (w : step.Step). w .label) f) ∙ e)) i count
+      of S h x l (inside p j) f stood i = absurd (loud (sym (ap (λ (w : step.Step). w .label) f) ∙ e))
+      of S h x l (between p q u) f stood i = absurd (loud (sym (ap (λ (w : step.Step). w .label) f) ∙ e))
+
+  pub settles-output : {r : Rests} → v .label ≡ Output → CountsActor s st (v .sender) (st .names) (v .sender .next) message m out c
+      → r ≡ onlyOf c → Settles s st v message m out r
+  settles-output = settles-alone Output (λ w. w .sender) (λ e. let z : _≡_ {A = ℕ} 0 1 = cc in omega arith) (sender-alone (st .start))
 
   pub settles-input : {r : Rests} → v .label ≡ Input → CountsActor s st (v .taker) (st .names) (v .taker .next) message m out c
       → r ≡ onlyOf c → Settles s st v message m out r
-  unfolding stepOf
-  settles-input {r} e count g = record { exact = λ S h x w mv l. of S h x l w (mv .same) (step-stood w mv) (mv .labelled) }
-    where
-      of : (S : State) (h : Held s out st S) (x : Message) → Leading s st S m out → (w : Move)
-          → v ≡ stepOf (st .start) w → Stood (st .names) (h .at .placed) w → Labelled message (carried x w)
-          → let o = outcome (h .at .placed) (S .next) x w in r ≡ restsOf (o .large) (lastFor w) (o .next)
-      of S h x l (alone p a) f stood i =
-          let own = taker-alone (st .start) p a (sym (ap (λ (w : step.Step). w .label) f) ∙ e) in
-          g ∙ alone-settled h l x p a stood (ap (λ (w : step.Step). w .taker) f ∙ own) i count
-      of S h x l (inside p j) f stood i =
-          let k : Silent ≡ Input = sym (ap (λ (w : step.Step). w .label) f) ∙ e in
-          absurd (let z : _≡_ {A = ℕ} 0 1 = cc in omega arith)
-      of S h x l (between p q u) f stood i =
-          let k : Silent ≡ Input = sym (ap (λ (w : step.Step). w .label) f) ∙ e in
-          absurd (let z : _≡_ {A = ℕ} 0 1 = cc in omega arith)
+  settles-input = settles-alone Input (λ w. w .taker) (λ e. let z : _≡_ {A = ℕ} 0 1 = cc in omega arith) (taker-alone (st .start))
 
 pub settles-silent : {s message m out : List ℕ} {st : code.State} {v : step.Step} {r : Rests} → v .label ≡ Silent
     → SettlesSilent s st v message m out r → Settles s st v message m out r

@@ -9,18 +9,17 @@ use lib.Dec.{ltb}
 use lib.ListN.{length}
 use borrow.Author.Tests.{ltb-true, lt-ltb}
 use Rattle.meaning.specs.Messages.Term.{leaf, public}
-use Rattle.meaning.specs.Messages.Normal.{normal}
 use Rattle.meaning.specs.Steps.State.{worked}
-use Rattle.meaning.specs.Places.{Every, _also_}
+use Rattle.meaning.specs.Places.{Every}
 use Rattle.meaning.specs.Bytes.Standing.{Stands}
-use Rattle.meaning.proofs.Messages.{normalForms}
 use Rattle.meaning.proofs.Every.{every-map}
-use Rattle.messages.specs.Encoding.{encodeNode, encodeMessage}
+use Rattle.messages.specs.Encoding.{encodeMessage}
 use Rattle.states.specs.Record.{Placed, encodeRecords}
 use Rattle.positions.specs.Joint.{messageOf}
+use Rattle.positions.proofs.Laws.Everywhere.{every-first}
 use Rattle.moves.specs.Spot.{spotsFrom, recordAt, offersOf}
 use Rattle.moves.specs.Threads.{Threads}
-use Rattle.walks.specs.Visit.{Labelled}
+use Rattle.forms.specs.Visit.{Labelled}
 use Rattle.offers.specs.Seek.{Sight, Sees, ShowsSight, Seeks}
 use Rattle.moves.specs.CopyOffers.{outputs, inputs, channelOf}
 use Rattle.moves.specs.CopyMoves.{Roomy}
@@ -30,10 +29,12 @@ use Rattle.offers.specs.declared.seek.Sighting.{Sighting}
 use Rattle.moves.specs.declared.step.Next.{Next}
 use Rattle.moves.specs.declared.step.Next.the-variants.{None, Found}
 use Rattle.moves.specs.declared.step.Label.the-variants.{Silent}
-use Rattle.moves.proofs.Laws.Front.{whole}
+use Rattle.moves.proofs.Laws.Records.{whole}
+use Rattle.moves.proofs.Laws.Threads.{threads-from}
 use Rattle.steps.proofs.Laws.BetweenLists.{parties-all}
 use Rattle.steps.proofs.Laws.BetweenOffers.{Sending, sending-all}
-use Rattle.steps.proofs.Laws.BetweenSought.{threads-behind, Seated, spots-seated, first-among, nothing-skipped, sender-skipped}
+use Rattle.steps.proofs.Laws.BetweenSought.{Seated, spots-seated, first-among, nothing-skipped, sender-skipped}
+use Rattle.meetings.proofs.Laws.Look.{label-zero}
 
 false-true : false ≡ true → ⊥
 false-true e = let z : _≡_ {A = ℕ} 0 1 = cc in omega arith
@@ -68,27 +69,19 @@ module _ {at x to long place mark : ℕ} where
 pub ruleset followings = (follows-none, follows-long, follows-beyond, follows-same, follows-other)
 
 -- The label of senders does not matter, but it is the run of a message.
-label-zero : Labelled (16 ∷ 0 ∷ []) (leaf (public 0))
-unfolding encodeMessage encodeNode normal
-label-zero = record { same = refl; small = omega arith; normal = normalForms (leaf (public 0)) .0 }
-
 pub sends : {s label : List ℕ} {at k to : ℕ} {m : List ℕ} {x : ℕ} {out : List ℕ} {r : Sighting} {after : List ℕ}
     → label ≡ 16 ∷ 0 ∷ [] → Seeks s label at to m (outputs x) to k out r after → Sends s at k to m x out r after
 unfolding sendersFrom
 sends {s} {label} {at} {k} {to} {m} {x} {out} {r} {after} e v = record {
   exact = λ start ls ts h room here.
       let there : Threads s out (start + length (encodeRecords ls)) k ts to = subst (λ (n : ℕ). Threads s out n k ts to) here h in
-      let labelled : Labelled label (leaf (public 0)) = subst (λ l. Labelled l (leaf (public 0))) (sym e) label-zero in
       subst (λ (i : Sight). ShowsSight after r i)
       (first-among (outputs 0) (leaf (public 0)) start k to (λ p. offersOf (p .thread) k) x ls ts at here
       (every-map (λ p g. nothing-skipped p g) (spots-seated ls ts there)))
-      (v .exact ts (leaf (public 0)) h (le-refl k) refl labelled (room .short) (room .wide) (room .room) (omega (arith, room .few)));
+      (v .exact ts (leaf (public 0)) h (le-refl k) refl (label-zero e) (room .short) (room .wide) (room .room) (omega (arith, room .few)));
 }
 
 -- The first of senders: its thread is one of the list, and it meets no limit.
-pub first-of : {A : Type 0} {R : A → Type 0} {w : A} {ws : List A} → Every R (w ∷ ws) → R w
-first-of (r also rs) = r
-
 pub record Known (start k to long : ℕ) (ps : List Placed) (w : Party) : Type 0 where
   pub parts : ps ≡ whole (w .spot)
   pub below : recordAt start (w .spot) < to
@@ -100,14 +93,14 @@ pub sender-known : {s out : List ℕ} {start k to : ℕ} (x : ℕ) (ps ls ts : L
 unfolding sendersFrom
 sender-known {s} {out} {start} {k} {to} x ps ls ts {w} {others} h split short few e =
     let there : Threads s out start k (ls ++ ts) to = subst (λ us. Threads s out start k us to) split h in
-    let seated : Every (Seated s start k to (ls ++ ts)) (spotsFrom ls ts) = spots-seated ls ts (threads-behind ls ts there) in
+    let seated : Every (Seated s start k to (ls ++ ts)) (spotsFrom ls ts) = spots-seated ls ts (threads-from ls ts there) in
     let all : Every (Known start k to (length s) (ls ++ ts)) (sendersFrom k x (spotsFrom ls ts)) =
     parties-all (outputs 0) (leaf (public 0)) (λ p. offersOf (p .thread) k)
     (λ n p g. every-map (λ a sent t. record { parts = g .parts; below = g .below; sending = sent t })
     (sending-all n (p .thread) (g .standing) (g .judged) short few))
     x (spotsFrom ls ts) seated in
     subst (λ us. Known start k to (length s) us w) (sym split)
-    (first-of (subst (λ us. Every (Known start k to (length s) (ls ++ ts)) us) e all))
+    (every-first (subst (λ us. Every (Known start k to (length s) (ls ++ ts)) us) e all))
 
 -- The answer where a taker is found.
 abbrev found : (at mark next at′ mark′ next′ size : ℕ) → Next
@@ -139,7 +132,7 @@ module _ {s label : List ℕ} {to : ℕ} {m : List ℕ} (now : Sighting) {taker 
       → ShowsSight after r (sightOf start (takersOf y w ls ts))
   taker-sought start k ps ls ts w message h room split here known sees labelled =
       let there : Threads s out start k (ls ++ ts) to = subst (λ us. Threads s out start k us to) split h in
-      let behind = threads-behind ls ts there in
+      let behind = threads-from ls ts there in
       let whole-too : ls ++ ts ≡ whole (w .spot) = sym split ∙ known .parts in
       let sending = known .sending in
       let seen = v .exact ts (channelOf (w .offer)) (subst (λ (n : ℕ). Threads s out n k ts to) (sym here) behind)

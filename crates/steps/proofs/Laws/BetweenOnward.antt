@@ -11,6 +11,7 @@ use Rattle.meaning.specs.Messages.Term.{leaf, public}
 use Rattle.meaning.specs.Places.{Every}
 use Rattle.meaning.specs.Bytes.Standing.{Stands}
 use Rattle.meaning.specs.Steps.State.{worked}
+use Rattle.meaning.specs.Steps.Offer.{Split}
 use Rattle.messages.specs.Encoding.{encodeMessage}
 use Rattle.messages.specs.Buffer.{Within}
 use Rattle.messages.proofs.Laws.Buffer.{part}
@@ -18,10 +19,11 @@ use Rattle.states.specs.Record.{Placed, encodeRecords}
 use Rattle.states.specs.Shown.{encodeMessages}
 use Rattle.positions.specs.Joint.{messageOf}
 use Rattle.positions.proofs.Laws.Increasing.{Increasing, increasing-lower, acting-increasing}
+use Rattle.positions.proofs.Laws.Everywhere.{every-first}
+use Rattle.positions.proofs.Laws.Copies.{split-at}
 use Rattle.moves.specs.Spot.{Spot, spots, spotsFrom, recordAt, offersOf}
 use Rattle.moves.specs.Threads.{Threads}
-use Rattle.walks.specs.Visit.{Labelled}
-use Rattle.moves.specs.Moves.{Move}
+use Rattle.forms.specs.Visit.{Labelled}
 use Rattle.offers.specs.Seek.{Sees, ShowsSight}
 use Rattle.offers.specs.Hand.{Hands}
 use Rattle.moves.specs.CopyOffers.{outputs, channelOf}
@@ -34,10 +36,11 @@ use Rattle.offers.specs.declared.seek.Sighting.{Sighting}
 use Rattle.moves.specs.declared.step.Next.{Next}
 use Rattle.moves.specs.declared.step.Next.the-variants.{None, Found}
 use Rattle.moves.specs.declared.step.Step as code
-use Rattle.moves.proofs.Laws.Threads.{threads-kept}
+use Rattle.moves.proofs.Laws.Threads.{threads-kept, threads-from}
 use Rattle.steps.proofs.Laws.BetweenLists.{Resumes, parties-resumed}
-use Rattle.steps.proofs.Laws.BetweenSought.{Placing, parties-placed, threads-behind}
-use Rattle.steps.proofs.Laws.Between.{first-of, sender-known}
+use Rattle.steps.proofs.Laws.BetweenSought.{Placing, parties-placed}
+use Rattle.steps.proofs.Laws.Between.{sender-known}
+use Rattle.meetings.proofs.Laws.Shown.{shown-more, shown-none}
 
 -- The array that the channel was copied to, whole again.
 pub still-fits : {n long : ℕ} (xs : List ℕ) → n ≤ long → length xs ≡ long → n ≤ length (xs ++ [])
@@ -53,10 +56,10 @@ pairs {s} {to} {m} {now} {taker} {y} {out} {message} {said} {channel} {long} {h}
   exact = λ start k x ps ls ts ls′ ts′ w others threads room split split′ here senders sees.
       let a = w .offer in
       let known = sender-known x ps ls ts threads split (room .short) (room .few) senders in
-      let sending = known .sending in
+      let sending = known .sending .sent in
       let M = worked (a .bound) (messageOf (a .prefix)) in
       let messages : Stands out (now .done .sent) (encodeMessages (channelOf a ∷ M ∷ [])) (now .done .state .end) =
-      subst (λ xs. Stands out (now .done .sent) (encodeMessages xs) (now .done .state .end)) (sending .hands) (sees .messages) in
+      subst (λ xs. Stands out (now .done .sent) (encodeMessages xs) (now .done .state .end)) (sending .messages) (sees .messages) in
       let (first, second) = hands .exact (channelOf a) M messages (omega (arith, sending .channel))
       (omega (arith, sending .message, room .long)) in
       let label : take (h .channel - 0) (drop 0 (channel ++ [])) ≡ encodeMessage (channelOf a) =
@@ -66,29 +69,16 @@ pairs {s} {to} {m} {now} {taker} {y} {out} {message} {said} {channel} {long} {h}
       v .exact start k x ps ls ts ls′ ts′ w others said message threads room split split′ here senders sees labelled second;
 }
 
--- A list of moves, and more behind it.
-found-none : (step : code.Step) → Found step ≡ None → ⊥
-found-none step e = let z : _≡_ {A = ℕ} 0 1 = cc in omega arith
-
-found-first : (start : ℕ) (said : List ℕ) (step : code.Step) (us vs : List Move) → Shown start said (Found step) us
-    → Shown start said (Found step) (us ++ vs)
-found-first start said step [] vs h = absurd (found-none step h)
-found-first start said step (u ∷ us) vs h = h
-
-none-empty : (start : ℕ) (said : List ℕ) (us : List Move) → Shown start said None us → us ≡ []
-none-empty start said [] h = refl
-none-empty start said (u ∷ us) h = absurd (found-none _ (sym (h .0)))
-
 -- The senders behind the first of senders.
 pub offers-increase : (k : ℕ) (p : Spot) → Increasing 0 (offersOf (p .thread) k)
 offers-increase k p = increasing-lower (omega arith) (acting-increasing _ _ _ 0 k)
 
-pub senders-resumed : (k x : ℕ) (ls ts : List Placed) (before : List Party) (w : Party) (others : List Party)
-    → sendersFrom k x (spotsFrom ls ts) ≡ before ++ (w ∷ others)
+pub senders-resumed : (k x : ℕ) (ls ts : List Placed) {before others : List Party} {w : Party}
+    → Split (sendersFrom k x (spotsFrom ls ts)) before w others
     → Resumes (outputs 0) (leaf (public 0)) (λ p. offersOf (p .thread) k) (ls ++ ts) w others
 unfolding sendersFrom
-senders-resumed k x ls ts before w others e =
-    parties-resumed (outputs 0) (leaf (public 0)) (λ p. offersOf (p .thread) k) (offers-increase k) x ls ts before w others e
+senders-resumed k x ls ts s =
+    parties-resumed (outputs 0) (leaf (public 0)) (λ p. offersOf (p .thread) k) (offers-increase k) x ls ts s
 
 module _ {s : List ℕ} {start k to : ℕ} {m : List ℕ} {now : Sighting} {taker y : ℕ} {out message : List ℕ} where
   pub onward-found : {answer : Next} {step : code.Step} {said : List ℕ} → Pairs s to m now taker y out message answer said → answer ≡ Found step
@@ -96,7 +86,7 @@ module _ {s : List ℕ} {start k to : ℕ} {m : List ℕ} {now : Sighting} {take
   unfolding meetingsFrom
   onward-found {answer} {step} {said} v e = record {
     exact = λ x ps ls ts ls′ ts′ w others threads room split split′ here senders sees.
-        found-first start said step (takersFrom w y (spotsFrom ls′ ts′)) (meetingsFrom (spots ps) (spots ps) 0 others)
+        shown-more start said step (takersFrom w y (spotsFrom ls′ ts′)) (meetingsFrom (spots ps) (spots ps) 0 others)
         (subst (λ a. Shown start said a (takersFrom w y (spotsFrom ls′ ts′))) e
         (v .exact start k x ps ls ts ls′ ts′ w others threads room split split′ here senders sees));
   }
@@ -109,10 +99,10 @@ module _ {s : List ℕ} {start k to : ℕ} {m : List ℕ} {now : Sighting} {take
     exact = λ x ps ls ts ls′ ts′ w others threads room split split′ here senders sees.
         let p = w .spot in
         let a = w .offer in
-        let none = none-empty start said₁ (takersFrom w y (spotsFrom ls′ ts′))
+        let none = shown-none start said₁ (takersFrom w y (spotsFrom ls′ ts′))
         (subst (λ a. Shown start said₁ a (takersFrom w y (spotsFrom ls′ ts′))) e
         (v .exact start k x ps ls ts ls′ ts′ w others threads room split split′ here senders sees)) in
-        let again = senders-resumed k x ls ts [] w others senders in
+        let again = senders-resumed k x ls ts (split-at [] senders) in
         let room₁ : Roomy s out₁ m₁ said₁ k to = record {
           short = room .short;
           wide = omega (arith, room .wide, wm .long);
@@ -137,7 +127,7 @@ unfolding sendersFrom
 sender-ahead {s} {out} {start} {at} {k} {to} x ps ls ts w others r threads split here short few senders sees =
     let known = sender-known x ps ls ts threads split short few senders in
     let placing : Placing x ls w =
-    first-of (subst (λ us. Every (Placing x ls) us) senders (parties-placed (outputs 0) (leaf (public 0)) (λ p. offersOf (p .thread) k) x ls ts)) in
+    every-first (subst (λ us. Every (Placing x ls) us) senders (parties-placed (outputs 0) (leaf (public 0)) (λ p. offersOf (p .thread) k) x ls ts)) in
     record {
       some = omega (arith, sees .mark);
       within = omega (arith, sees .mark, known .sending .within);
@@ -151,7 +141,7 @@ module _ {s : List ℕ} {start at k to : ℕ} {m : List ℕ} {x : ℕ} {out mess
   first-sender : (ps ls ts : List Placed) → Threads s out start k ps to → Roomy s out m message k to → ps ≡ ls ++ ts
       → at ≡ start + length (encodeRecords ls) → ShowsSight out₁ r₁ (sightOf start (sendersFrom k x (spotsFrom ls ts)))
   first-sender ps ls ts threads room split here =
-      let behind = threads-behind ls ts (subst (λ us. Threads s out start k us to) split threads) in
+      let behind = threads-from ls ts (subst (λ us. Threads s out start k us to) split threads) in
       v .exact start ls ts (subst (λ (n : ℕ). Threads s out n k ts to) (sym here) behind) room here
 
   pub between-none : {taker y : ℕ} → b ≡ false → Betweens s start at k to m x taker y out message None message

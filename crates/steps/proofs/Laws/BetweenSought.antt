@@ -6,7 +6,7 @@ use mathlib.Core.Path.{_≡_, refl, sym, _∙_, ap, subst}
 use mathlib.Core.Bool.{Bool, true, false}
 use mathlib.Core.List.{List, [], _∷_, _++_, map, append-assoc}
 use lib.Dec.{eqb}
-use lib.ListN.{length, length-append}
+use lib.ListN.{length}
 use borrow.Author.Tests.{eqb-true, eqb-false, eq-eqb, ne-eqb}
 use Rattle.meaning.specs.Messages.Term.{Message}
 use Rattle.meaning.specs.Places.{Every, none, _also_}
@@ -15,26 +15,18 @@ use Rattle.states.specs.Record.{Placed, encodeRecord, encodeRecords, Standing}
 use Rattle.threads.specs.declared.task.Quest.{Quest}
 use Rattle.positions.specs.Located.{Acting}
 use Rattle.positions.specs.Sought.{wanted}
+use Rattle.positions.proofs.Laws.Everywhere.{every-mapped, everywhere}
 use Rattle.moves.specs.Spot.{Spot, spotsFrom, recordAt, offersOf, filter}
 use Rattle.moves.specs.Threads.{Judged, Threads}
 use Rattle.offers.specs.Seek.{Sight, seen, firstOf, firstAmong}
 use Rattle.moves.specs.Outcome.{same}
 use Rattle.steps.specs.Between.{Party, partiesFrom, sightOf}
 use Rattle.moves.proofs.Laws.Threads.{first-thread}
-use Rattle.moves.proofs.Laws.Front.{record-size, records-further, whole, same-record, other-record}
+use Rattle.moves.proofs.Laws.Records.{record-long, records-further, whole, same-record, other-record}
+use Rattle.moves.proofs.Laws.SplitLists.{since, wanted-since}
+use Rattle.moves.proofs.Laws.MovesLists.{every-filter}
 use Rattle.offers.proofs.Laws.Seek.{among-skipped, among-sought}
-use Rattle.moves.proofs.Laws.MovesLists.{every-mapped}
-use Rattle.steps.proofs.Laws.BetweenLists.{since, party, wanted-since, filter-every}
-
--- The threads behind others stand behind their records.
-pub threads-behind : {s out : List ℕ} {start k to : ℕ} (ls ts : List Placed) → Threads s out start k (ls ++ ts) to
-    → Threads s out (start + length (encodeRecords ls)) k ts to
-unfolding encodeRecords
-threads-behind {s} {out} {start} {k} {to} [] ts h = subst (λ (n : ℕ). Threads s out n k ts to) (omega arith) h
-threads-behind {s} {out} {start} {k} {to} (l ∷ ls) ts h =
-    let (p, j, rest) = first-thread l (ls ++ ts) h in
-    let size = length-append (encodeRecord l) (encodeRecords ls) in
-    subst (λ (n : ℕ). Threads s out n k ts to) (omega (arith, size)) (threads-behind ls ts rest)
+use Rattle.steps.proofs.Laws.BetweenLists.{party}
 
 -- A thread of the list ps, whose record stands before the end of the state.
 pub record Seated (s : List ℕ) (start k to : ℕ) (ps : List Placed) (p : Spot) : Type 0 where
@@ -52,7 +44,7 @@ spots-seated {s} {out} {start} {k} {to} ls (t ∷ ts) h =
     let here : start + length (encodeRecords ls) + length (encodeRecord t) ≡ start + length (encodeRecords (ls ++ (t ∷ []))) =
     omega (arith, records-further ls t) in
     let others = spots-seated (ls ++ (t ∷ [])) ts (subst (λ (n : ℕ). Threads s out n k ts to) here rest) in
-    let below : start + length (encodeRecords ls) < to = omega (arith, rest .stands .size, record-size t) in
+    let below : start + length (encodeRecords ls) < to = omega (arith, rest .stands .size, record-long t) in
     record { parts = refl; standing = p .standing; judged = j; below = below }
     also subst (λ ps. Every (Seated s start k to ps) (spotsFrom (ls ++ (t ∷ [])) ts)) (append-assoc ls (t ∷ []) ts) others
 
@@ -117,18 +109,14 @@ parties-placed q x f n ls [] = none
 parties-placed q x f n ls (t ∷ ts) =
     let p : Spot = record { before = ls; thread = t; behind = ts } in
     every-joined
-    (every-mapped (party p) (filter-every (wanted (since n q) x) (every-all (λ a e. record {
+    (every-mapped (party p) (every-filter (wanted (since n q) x) (everywhere (λ a e. record {
       later = le-refl _;
       from = λ _. wanted-since q x n a e;
     }) (f p))))
     (every-map (λ w h. record {
       later = omega (arith, h .later, records-further ls t);
-      from = λ e. absurd (omega (arith, h .later, records-further ls t, record-size t));
+      from = λ e. absurd (omega (arith, h .later, records-further ls t, record-long t));
     }) (parties-placed q x f 0 (ls ++ (t ∷ [])) ts))
-  where
-    every-all : {A : Type 0} {R : A → Type 0} → ((a : A) → R a) → (xs : List A) → Every R xs
-    every-all r [] = none
-    every-all r (a ∷ xs) = r a also every-all r xs
 
 -- No record stands at the end of the state; and a thread is the sender's if its record stands where the sender's does.
 pub nothing-skipped : {s : List ℕ} {start k to : ℕ} {ps : List Placed} (p : Spot) → Seated s start k to ps p

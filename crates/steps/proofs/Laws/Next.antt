@@ -1,47 +1,28 @@
 -- The next step of whichever label ("Steps"). Assumes nothing.
 use mathlib.Core.Path.{_≡_, refl, sym, subst}
 use mathlib.Core.Bool.{Bool, true, false}
-use mathlib.Core.List.{List, [], _∷_}
+use mathlib.Core.List.{List}
 use Prim.Native.Nat.{ℕ}
 use native.Mathlib.Omega.{arith}
 use lib.ListN.{length}
 use Rattle.meaning.specs.Messages.Term.{Message}
-use Rattle.meaning.specs.Bytes.Process.{Prefix, output, input}
-use Rattle.meaning.specs.Bytes.Standing.{Stands}
-use Rattle.meaning.specs.Places.{_also_}
 use Rattle.meaning.specs.Steps.State.{State}
 use Rattle.messages.specs.Buffer.{Within}
 use Rattle.states.specs.declared.state.State as code
-use Rattle.moves.specs.Moves.{Move, alone, inside, between, labelledMoves}
-use Rattle.walks.specs.Visit.{Labelled}
+use Rattle.moves.specs.Moves.{Move, labelledMoves}
+use Rattle.forms.specs.Visit.{Labelled}
 use Rattle.moves.specs.Held.{Held}
-use Rattle.moves.specs.Step.{runOf, Shown}
+use Rattle.moves.specs.Step.{Shown}
 use Rattle.moves.specs.CopyMoves.{Roomy}
-use Rattle.offers.specs.Labelled.{Told, ShowsNext, NextLabelled}
+use Rattle.offers.specs.Labelled.{NextLabelled}
 use Rattle.moves.specs.Behind.{movesOf, modeBefore, nobodyAt, before, Behind, all, later, Searching}
 use Rattle.steps.specs.Next.{Nexts, NextSilent}
 use Rattle.moves.specs.declared.step.Step as step
 use Rattle.moves.specs.declared.step.Label.{Label}
 use Rattle.moves.specs.declared.step.Label.the-variants.{Output, Input, Silent}
 use Rattle.moves.specs.declared.step.Next.{Next}
-use Rattle.moves.proofs.Laws.Moves.{prefixed}
 use Rattle.moves.proofs.Laws.Start.{held-threads}
-use Rattle.offers.proofs.Laws.Cursor.{labelOf, Asked, first-shown, later-shown}
-
--- What is told of a message is that its run stands.
-told-run : (said : List ℕ) (w : Move) → Told said w → Stands said 0 (runOf w) (length (runOf w))
-unfolding runOf
-told-run said (alone p a) t = of (a .prefix) t
-  where
-    of : (q : Prefix) → Told said (alone p (prefixed a q)) → Stands said 0 (runOf (alone p (prefixed a q))) (length (runOf (alone p (prefixed a q))))
-    of (output C M) (t also ts) = t
-    of (input C) t = record { bytes = refl; size = refl }
-told-run said (inside p w) (t also ts) = t
-told-run said (between p q w) (t also ts) = t
-
-shown-told : (start : ℕ) (said : List ℕ) (r : Next) (ws : List Move) → ShowsNext start said r ws → Shown start said r ws
-shown-told start said r [] e = e
-shown-told start said r (w ∷ ws) (e, t) = (e, told-run said w t)
+use Rattle.offers.proofs.Laws.LabelledMoves.{labelOf, Asked, first-shown, later-shown}
 
 -- Outputs and inputs.
 module _ {s channel : List ℕ} {st : code.State} {m out message : List ℕ} {r : Next} {said : List ℕ} where
@@ -61,12 +42,12 @@ module _ {s channel : List ℕ} {st : code.State} {m out message : List ℕ} {r 
         few = h .made;
         fits = o .long;
       } in
-      shown-told (st .start) said r others (of sending asked n e b)
+      of sending asked n e b
     where
       of : (sending : Bool) {from : step.Step} {others : List Move} → Asked s channel st S (h .at .placed) x m out message
           → NextLabelled s channel st from m out message r said → from .label ≡ labelOf sending
           → Behind (labelOf sending) (st .start) (labelledMoves sending x (S .next) (h .at .placed)) from others
-          → ShowsNext (st .start) said r others
+          → Shown (st .start) said r others
       of true asked n e all = first-shown asked n true refl refl refl
       of false asked n e all = first-shown asked n false refl refl refl
       of true asked n e (later earlier w {others} f) = later-shown asked n true earlier w others f refl

@@ -8,11 +8,11 @@ use lib.ListN.{length, length-append}
 use Rattle.meaning.specs.Places.{Every}
 use Rattle.meaning.proofs.Every.{every-split}
 use Rattle.messages.specs.Buffer.{Within}
-use Rattle.states.specs.Record.{Placed, encodeRecord, encodeRecords}
+use Rattle.states.specs.Record.{Placed, encodeRecords}
 use Rattle.states.specs.declared.state.State as code
 use Rattle.positions.specs.Joint.{Pair, Joint}
 use Rattle.positions.proofs.Laws.Copies.{split-joined, split-at}
-use Rattle.positions.proofs.Laws.Everywhere.{every-mapped, every-flatMap}
+use Rattle.positions.proofs.Laws.Everywhere.{every-mapped, every-flatMap, everywhere}
 use Rattle.moves.specs.Spot.{Spot, spots, spotsFrom, copiesOf, jointsOf}
 use Rattle.moves.specs.Moves.{Move, inside, between, meetings, silentMoves}
 use Rattle.moves.specs.Threads.{Threads}
@@ -27,14 +27,15 @@ use Rattle.moves.specs.declared.step.Step as step
 use Rattle.moves.specs.declared.step.Label.the-variants.{Silent}
 use Rattle.moves.specs.declared.step.Next.{Next}
 use Rattle.moves.specs.declared.step.Next.the-variants as next
-use Rattle.moves.proofs.Laws.Threads.{first-thread, threads-kept}
+use Rattle.moves.proofs.Laws.Threads.{threads-kept, threads-from}
 use Rattle.moves.proofs.Laws.CopyMoves.{copyMovesAll, silentMoves-parts}
-use Rattle.moves.proofs.Laws.CopyMovesLists.{split-parts}
+use Rattle.moves.proofs.Laws.SplitLists.{split-parts}
 use Rattle.moves.proofs.Laws.CopyMovesResumed.{copyMovesResumed}
-use Rattle.moves.proofs.Laws.CopyMovesSilent.{Shared, both, everywhere, meetings-shared}
+use Rattle.moves.proofs.Laws.CopyMovesSilent.{Shared, both, meetings-shared}
 use Rattle.steps.proofs.Laws.BetweenMoves.{betweenAll, betweenResumed}
-use Rattle.meetings.proofs.Laws.Groups.{few-groups}
-use Rattle.meetings.proofs.Laws.Joint.{shown-more, shown-next, thread-at}
+use Rattle.meetings.proofs.Laws.ReplThreads.{few-groups}
+use Rattle.meetings.proofs.Laws.Joint.{thread-at}
+use Rattle.meetings.proofs.Laws.Shown.{shown-more, shown-next}
 
 -- The steps of two threads.
 abbrev pub meetingsAll : (k : ℕ) → List Placed → List Move
@@ -71,17 +72,6 @@ stand k ps earlier w others e =
 
     pair : {w : Move} (l : List Move) → Shared w → meetingsAll k ps ≡ l ++ (w ∷ others) → Stand k ps w others
     pair l (both p q v) g = of-two l g
-
--- The threads from one on.
-pub threads-from : {s out : List ℕ} {at k to : ℕ} (ls ts : List Placed) → Threads s out at k (ls ++ ts) to
-    → Threads s out (at + length (encodeRecords ls)) k ts to
-unfolding encodeRecords
-threads-from {s} {out} {at} {k} {to} [] ts h = let here : at + 0 ≡ at = omega arith in rw here h
-threads-from {s} {out} {at} {k} {to} (l ∷ ls) ts h =
-    let (_, _, others) = first-thread l (ls ++ ts) h in
-    let here : at + length (encodeRecord l) + length (encodeRecords ls) ≡ at + length (encodeRecord l ++ encodeRecords ls) =
-    omega (arith, length-append (encodeRecord l) (encodeRecords ls)) in
-    subst (λ (n : ℕ). Threads s out n k ts to) here (threads-from ls ts others)
 
 -- The position of a mark.
 place-mark : (n : ℕ) → placeOf (n + 1) ≡ n

@@ -22,15 +22,15 @@ use Rattle.walks.specs.Settled.{threadsOf}
 use Rattle.states.specs.Course.{Going, Course, going, unless}
 use Rattle.states.specs.Shown.{Shows, ShowsCourse}
 use Rattle.walks.specs.Walk.{Meant}
-use Rattle.walks.specs.Form.{StateAt, stateOf, overArrival, Forms, Finishes}
+use Rattle.forms.specs.Form.{StateAt, stateOf, overArrival, Forms, Finishes}
 use Rattle.states.specs.Progress.{Extends}
 use Rattle.states.specs.declared.state.State as code
-use Rattle.walks.specs.declared.form.Formed.{Formed}
+use Rattle.forms.specs.declared.form.Formed.{Formed}
 use Rattle.states.specs.declared.progress.Progress.{Progress}
 use Rattle.moves.specs.Moves.{Move, alone, inside, between}
 use Rattle.moves.specs.Outcome.{Outcome, outcome, arrivalOf}
 use Rattle.moves.specs.Limits.{EveryMove, restOver, full}
-use Rattle.walks.specs.Visit.{NamesSmall}
+use Rattle.forms.specs.Visit.{NamesSmall}
 use Rattle.moves.specs.Held.{Held}
 use Rattle.moves.specs.Step.{stepOf}
 use Rattle.moves.specs.Behind.{movesOf}
@@ -45,12 +45,12 @@ use Rattle.moves.specs.declared.step.Label.{Label}
 use Rattle.moves.specs.declared.step.Label.the-variants.{Output, Input, Silent}
 use Rattle.successors.specs.declared.tasks.Tasks.{Tasks}
 use Rattle.moves.proofs.Laws.Limits.{limitsJudged}
-use Rattle.moves.proofs.Laws.Moves.{prefixed}
 use Rattle.moves.proofs.Laws.Threads.{threads-kept}
 use Rattle.moves.proofs.Laws.Start.{held-threads}
 use Rattle.successors.proofs.Laws.Rebuilt.{pushAll-limits}
 use Rattle.successors.proofs.Laws.RebuiltMove.{rebuiltMove}
 use Rattle.successors.proofs.Laws.RebuiltMeant.{meantMove}
+use Rattle.positions.specs.Located.{prefixed}
 
 -- What holds of every step holds of this one.
 pub every-move : {Q : Move → Type 0} (k : ℕ) (ps : List Placed) → EveryMove Q k ps → (l : Label) (c : Message)

@@ -8,8 +8,8 @@ use Rattle.meaning.specs.Steps.State.{State}
 use Rattle.messages.specs.Buffer.{Within}
 use Rattle.messages.proofs.Laws.Buffer.{kept}
 use Rattle.states.specs.declared.state.State as code
-use Rattle.walks.specs.declared.form.Formed.{Formed}
-use Rattle.walks.specs.declared.form.Formed.the-variants as formed
+use Rattle.forms.specs.declared.form.Formed.{Formed}
+use Rattle.forms.specs.declared.form.Formed.the-variants as formed
 use Rattle.moves.specs.Outcome.{outcome}
 use Rattle.moves.specs.Held.{Held}
 use Rattle.rests.specs.Rests.{lastFor, restsOf, Settles}

@@ -9,7 +9,6 @@ use lib.ListN.{length}
 use borrow.Author.Tests.{eq-eqb, ne-eqb}
 use Rattle.meaning.specs.Messages.Term.{Message}
 use Rattle.meaning.specs.Steps.State.{Thread, act, repl, names}
-use Rattle.meaning.specs.Bytes.Standing.{Stands}
 use Rattle.messages.specs.Encoding.{numberAt}
 use Rattle.messages.specs.Buffer.{Within}
 use Rattle.states.specs.Record.{Placed, encodeRecord}
@@ -22,9 +21,10 @@ use Rattle.states.specs.declared.progress.Progress.{Progress}
 use Rattle.walks.proofs.Laws.Course.{Ends, Next, ends-either, push-next, go-names}
 use Rattle.states.proofs.Laws.Stored.{record-parts}
 use Rattle.moves.specs.Threads.{Threads}
-use Rattle.walks.specs.Visit.{Visits}
+use Rattle.forms.specs.Visit.{Visits}
 use Rattle.successors.specs.Rebuild.{goOver, renewed, rebuilt, Prepared, Renews, Rebuilds}
 use Rattle.moves.proofs.Laws.Threads.{first-thread, threads-kept, no-threads}
+use Rattle.moves.proofs.Laws.Records.{record-long}
 
 -- What is left of a thread, by its position.
 module _ (x : Message) (i : ℕ) (T : Task) (j : ℕ) (U : Task) (at : ℕ) (t : Placed) (g : Going) where
@@ -76,12 +76,8 @@ unfolding renewed
 renewed-names x i T j U at t g h e =
     ends-either (eqb at i) (goOver-next t T x g) (ends-either (eqb at j) (goOver-next t U x g) (push-next (t .place) (t .thread) g)) .at-end h e
 
--- A record takes four bytes, and more.
-record-long : {out : List ℕ} {at next : ℕ} (t : Placed) → Stands out at (encodeRecord t) next → at + 4 ≤ next
-record-long t h = let (a, b, c) = record-parts t h in omega (arith, c .size)
-
 threads-long : {s out : List ℕ} {at k to : ℕ} (t : Placed) (ts : List Placed) → Threads s out at k (t ∷ ts) to → at + 4 ≤ to
-threads-long t ts h = let (a, b, c) = first-thread t ts h in omega (arith, record-long t (a .stands), c .stands .size)
+threads-long t ts h = let (a, b, c) = first-thread t ts h in omega (arith, record-long t, c .stands .size)
 
 -- Nothing more is done.
 module _ {s label m out : List ℕ} {at to i j : ℕ} {T U : Task} {now : Progress} where

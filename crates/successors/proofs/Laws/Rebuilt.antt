@@ -25,7 +25,7 @@ use Rattle.moves.specs.Spot.{Spot, spotsFrom, spots, recordAt}
 use Rattle.moves.specs.Outcome.{same, exchanged}
 use Rattle.successors.specs.Rebuild.{goOver, renewed, rebuilt}
 use Rattle.successors.proofs.Laws.Rebuild.{renewed-first, renewed-others}
-use Rattle.moves.proofs.Laws.Front.{records-further, whole, same-record, other-record}
+use Rattle.moves.proofs.Laws.Records.{records-further, whole, same-record, other-record}
 
 -- Threads that are written one after the other, with the limits on all of them.
 pub pushAll-limits : (ps : List Placed) (g : Going) → length (g .threads) ≤ 32 → g .nodes ≤ 1024

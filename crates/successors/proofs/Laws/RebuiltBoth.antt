@@ -18,7 +18,7 @@ use Rattle.moves.specs.Spot.{Spot, spots, recordAt}
 use Rattle.moves.specs.Outcome.{same, bothExchanged}
 use Rattle.successors.specs.Rebuild.{renewed, rebuilt}
 use Rattle.successors.proofs.Laws.Rebuild.{renewed-first, renewed-second, renewed-others}
-use Rattle.moves.proofs.Laws.Front.{whole, same-record, other-record}
+use Rattle.moves.proofs.Laws.Records.{whole, same-record, other-record}
 use Rattle.successors.proofs.Laws.Rebuilt.{Leaves, leaves-writes, rebuilt-parts, passes-at, every}
 
 -- What is chosen by the spot: a, b, or c.

@@ -20,7 +20,7 @@ use Rattle.threads.specs.declared.task.Task.the-variants.{Build, BuildIn}
 use Rattle.threads.specs.declared.task.CopyAt.{CopyAt}
 use Rattle.threads.specs.declared.task.Plan.{Plan}
 use Rattle.walks.proofs.Laws.Crowd.{crowded, roomy}
-use Rattle.positions.specs.Located.{Acting, acting}
+use Rattle.positions.specs.Located.{Acting, acting, replacedAs}
 use Rattle.positions.specs.Joint.{pairs, copyPairs, Joint, joints}
 use Rattle.positions.specs.Sought.{Opened}
 use Rattle.positions.specs.Rebuilt.{replacedAt, pushAll}
@@ -79,7 +79,7 @@ module _ (t : Placed) (n : ℕ) where
 
   replaced-settled : (x k : ℕ) (z : List Placed)
       → replacedAt x z (processOf (t .thread)) (t .place) (boundOf (t .thread)) n k ≡ replacedIn t x k z
-  unfolding replacedAt
+  unfolding replacedAs
   replaced-settled x k z = of (t .thread)
     where
       of : (u : Thread) → replacedAt x z (processOf u) (t .place) (boundOf u) n k ≡ replacedAt x z (processOf u) (t .place) (boundOf u) 0 k

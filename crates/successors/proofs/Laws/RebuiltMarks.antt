@@ -1,14 +1,13 @@
 -- Offers of a process that stands in a model: the kinds of the processes at their positions, and how large their private names are
 -- ("Steps"; "Bytes", the process kinds). Assumes nothing.
-use mathlib.Core.Path.{_≡_, ap}
+use mathlib.Core.Path.{_≡_}
 use mathlib.Core.Bool.{true, false}
-use mathlib.Core.List.{List, [], _∷_}
+use mathlib.Core.List.{List}
 use Prim.Native.Nat.{ℕ, _+_, _≤_}
 use native.Mathlib.Omega.{arith}
-use lib.ListN.{length, getD, drop, length-append, length-drop}
+use lib.ListN.{length, getD}
 use Rattle.meaning.specs.Messages.Normal.{equal}
-use Rattle.meaning.specs.Bytes.Process.{Prefix, output, input, Process}
-use Rattle.meaning.specs.Bytes.Standing.{Stands}
+use Rattle.meaning.specs.Bytes.Process.{output, input, Process}
 use Rattle.meaning.specs.Places.{Every, none, _also_}
 use Rattle.meaning.specs.Steps.State.{Bound, written, names}
 use Rattle.meaning.proofs.Every.{every-map, every-joined}
@@ -18,18 +17,18 @@ use Rattle.walks.specs.News.{news, laterNews}
 use Rattle.states.proofs.Laws.Process.{kindOf, process-kind, of-new, of-if, of-let, of-par, of-repl}
 use Rattle.walks.proofs.Laws.Course.{names-fit}
 use Rattle.walks.proofs.Laws.Fits.{later-fewer}
-use Rattle.positions.specs.Located.{Acting, acting}
-use Rattle.positions.specs.Joint.{Pair, matching, pairs, copyPairs}
+use Rattle.positions.specs.Located.{Acting, acting, prefixed}
+use Rattle.positions.specs.Joint.{Pair, matching, pairs, copyPairs, pairOf}
 use Rattle.positions.specs.Sought.{Opened, copies}
 use Rattle.positions.proofs.Laws.Copies as walks
 use Rattle.positions.proofs.Laws.Copies.{jointOf, copiesSteps}
-use Rattle.positions.proofs.Laws.Everywhere.{every-and, every-mapped, every-flatMap}
+use Rattle.positions.proofs.Laws.Everywhere.{every-and, every-mapped, every-flatMap, matching-every}
 use Rattle.moves.specs.Spot.{offersOf, jointsOf}
 use Rattle.moves.specs.Outcome.{lastOf}
 use Rattle.moves.specs.Threads.{Judged}
-use Rattle.walks.proofs.Laws.Visit.{news-short}
 use Rattle.moves.proofs.Laws.LimitsPairs.{but-every}
 use Rattle.moves.proofs.Laws.Opened.{Opening, opened-all, names-later, Acts, acting-all, judged-clear}
+use Rattle.rests.proofs.Laws.RestsThread.{few-news}
 
 -- The byte at an offer is the kind of its process.
 abbrev pub Marked : List ℕ → Acting → Type 0
@@ -76,13 +75,6 @@ copies-stand (Process.repl P) at ρ n k p =
     let q = of-repl P p in
     every-joined (copies-stand P _ ρ _ _ q) (record { left = _; scope = _; next = _; process = q } also none)
 
--- A process that stands in a short model has few names.
-stands-short : {s xs : List ℕ} {at end : ℕ} → Stands s at xs end → length xs ≤ length s
-stands-short {s} {xs} {at} {end} p = omega (arith, ap length (p .bytes), length-append xs (drop end s), length-drop at s)
-
-few-news : {s : List ℕ} {at left scope next : ℕ} (P : Process) → ProcessAt s at left scope P next → length s ≤ 4096 → news P ≤ 4096
-few-news P p l = omega (arith, news-short P, stands-short (p .stands))
-
 -- An offer whose copies open at k: its private names, and its kind.
 pub record Acted (s : List ℕ) (k : ℕ) (a : Acting) : Type 0 where
   pub later : k ≤ a .next
@@ -101,32 +93,25 @@ pub record Paired (s : List ℕ) (w : Pair) : Type 0 where
   pub last : lastOf w ≤ 28664
   pub final : (τ : Bound) → names (w .taker .rest) τ (lastOf w) ≤ 28664
 
-abbrev prefixed : Acting → Prefix → Acting
-prefixed a p = record { place = a .place; bound = a .bound; prefix = p; rest = a .rest; next = a .next }
-
 module _ {s : List ℕ} {k : ℕ} (few : k ≤ 128) where
   pub paired : (a c : Acting) → Acted s k a → Acted s (a .next) c → Every (Paired s) (matching a c)
-  unfolding matching
-  paired a c = each (a .prefix) (c .prefix)
-    where
-      each : (p q : Prefix) → Acted s k (prefixed a p) → Acted s (a .next) (prefixed c q)
-          → Every (Paired s) (matching (prefixed a p) (prefixed c q))
-      each (output C M) (output D N) f g = none
-      each (output C M) (input D) f g =
-          let w : Pair = record { sender = prefixed a (output C M); taker = prefixed c (input D) } in
-          let both : Paired s w = record {
-            sender = f .marked;
-            taker = g .marked;
-            sender-next = omega (arith, f .small);
-            taker-next = omega (arith, f .small, g .small);
-            last = omega (arith, f .small, f .later, g .small, names-fit (a .rest) (a .bound) (c .next));
-            final = λ τ.
-                omega (arith, f .small, f .later, g .small, names-fit (a .rest) (a .bound) (c .next), names-fit (c .rest) τ (lastOf w));
-          } in
-          elim (equal (written (a .bound) C) (written (c .bound) D)) as (λ b. Every (Paired s) (elim b [ true ↦ w ∷ [] | false ↦ [] ]))
-          [ true ↦ both also none | false ↦ none ]
-      each (input C) (output D N) f g = none
-      each (input C) (input D) f g = none
+  paired a c f g =
+      matching-every (λ a c. Acted s k a × Acted s (a .next) c) a c (λ C M D (f, g). record {
+        sender = f .marked;
+        taker = g .marked;
+        sender-next = omega (arith, f .small);
+        taker-next = omega (arith, f .small, g .small);
+        last = omega (arith, f .small, f .later, g .small, names-fit (a .rest) (a .bound) (c .next));
+        final = λ τ.
+            omega (
+              arith,
+              f .small,
+              f .later,
+              g .small,
+              names-fit (a .rest) (a .bound) (c .next),
+              names-fit (c .rest) τ (lastOf (pairOf (prefixed a (output C M)) (prefixed c (input D)))),
+            );
+      }) (f, g)
 
 -- The offers of a thread, and its silent steps in copies.
 module _ {s : List ℕ} (short : length s ≤ 4096) (t : Placed) (standing : Standing s t) where

@@ -11,7 +11,7 @@ use Rattle.meaning.specs.Places.{Every, none, _also_}
 use Rattle.meaning.proofs.Every.{every-map, every-joined}
 use Rattle.states.specs.Record.{Placed, Standing}
 use Rattle.walks.specs.Walk.{Meant}
-use Rattle.positions.specs.Located.{Acting}
+use Rattle.positions.specs.Located.{Acting, prefixed}
 use Rattle.positions.specs.Joint.{Pair, Joint}
 use Rattle.positions.proofs.Laws.Everywhere.{every-and, every-mapped, every-flatMap}
 use Rattle.moves.specs.Spot.{Spot, spots}
@@ -24,9 +24,10 @@ use Rattle.walks.proofs.Laws.Course.{names-fit}
 use Rattle.moves.specs.Outcome.{outcome}
 use Rattle.successors.specs.Tasks.{tasksOf}
 use Rattle.rests.specs.Rests.{lastFor}
-use Rattle.walks.specs.Visit.{NamesSmall}
+use Rattle.forms.specs.Visit.{NamesSmall}
 use Rattle.successors.specs.declared.tasks.Tasks.{Tasks}
-use Rattle.moves.proofs.Laws.LimitsSpots.{every-filter, every-spot}
+use Rattle.moves.proofs.Laws.MovesLists.{every-filter}
+use Rattle.moves.proofs.Laws.MovesSpots.{every-spot}
 use Rattle.successors.proofs.Laws.RebuiltMove.{tasks-inside}
 use Rattle.successors.proofs.Laws.RebuiltMarks.{Acted, Paired, paired, offers-acted, joints-paired}
 
@@ -38,9 +39,6 @@ mark-at s place kind e t h =
 
 no-mark : (s : List ℕ) (kind t : ℕ) → t + 1 ≡ 0 → getD s t 0 ≡ kind
 no-mark s kind t h = absurd (omega arith)
-
-abbrev prefixed : Acting → Prefix → Acting
-prefixed a p = record { place = a .place; bound = a .bound; prefix = p; rest = a .rest; next = a .next }
 
 -- Both tasks of a step are meant, and their names are small.
 pub record TasksMeant (s : List ℕ) (T : Tasks) : Type 0 where

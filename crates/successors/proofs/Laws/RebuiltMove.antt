@@ -18,7 +18,7 @@ use Rattle.states.specs.Course.{Going, unless}
 use Rattle.threads.specs.declared.task.Task.the-variants.{Build, BuildIn}
 use Rattle.threads.specs.declared.task.CopyAt.{CopyAt}
 use Rattle.threads.specs.declared.task.Plan.{Plan}
-use Rattle.positions.specs.Located.{Acting}
+use Rattle.positions.specs.Located.{Acting, prefixed}
 use Rattle.positions.specs.Joint.{Pair, messageOf, Joint}
 use Rattle.positions.specs.Rebuilt.{pushAll}
 use Rattle.positions.proofs.Laws.Everywhere.{every-and, every-mapped, every-flatMap, every-matching}
@@ -34,8 +34,8 @@ use Rattle.moves.specs.Moving.{carried}
 use Rattle.successors.specs.Rebuild.{rebuilt}
 use Rattle.successors.specs.declared.tasks.Tasks.{Tasks}
 use Rattle.moves.proofs.Laws.LimitsPairs.{PairOpens, pair-opens}
-use Rattle.moves.proofs.Laws.LimitsSpots.{every-filter, every-spot}
-use Rattle.moves.proofs.Laws.MovesSpots.{Stands, spots-stand}
+use Rattle.moves.proofs.Laws.MovesSpots.{Stands, spots-stand, every-spot}
+use Rattle.moves.proofs.Laws.MovesLists.{every-filter}
 use Rattle.successors.proofs.Laws.Rebuilt.{rebuilt-one}
 use Rattle.successors.proofs.Laws.RebuiltBoth.{rebuilt-both}
 use Rattle.successors.proofs.Laws.RebuiltLeaves.{judged-later, Offers, offers-known, Joins, joints-known}
@@ -71,9 +71,6 @@ pub tasks-inside : (start k : ℕ) (p : Spot) (w : Joint)
     → tasksOf (stepOf start (inside p w)) (lastFor (inside p w)) k ≡ insideTasks start k p w
 unfolding stepOf lastFor
 tasks-inside start k p w = chosen-tasks (eqb (modeOf w) 0) _ _ (some-mode w)
-
-abbrev prefixed : Acting → Prefix → Acting
-prefixed a p = record { place = a .place; bound = a .bound; prefix = p; rest = a .rest; next = a .next }
 
 -- The messages that the rest of a taker is settled under have private names below those of the rest.
 taken-bound : {k : ℕ} (w : Pair) → PairOpens k w → BoundStored (lastOf w) (w .taker .bound ▸ sentBy w)

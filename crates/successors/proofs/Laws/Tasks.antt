@@ -4,45 +4,34 @@ use Prim.Native.Nat.{ℕ}
 use borrow.Author.Tests.{eq-eqb, ne-eqb}
 use Rattle.threads.specs.declared.task.Task.the-variants.{Build, BuildIn}
 use Rattle.threads.specs.declared.task.Plan.{Plan}
+use Rattle.threads.specs.declared.task.CopyAt.{CopyAt}
+use Rattle.rests.specs.Rests.{stepCopies}
 use Rattle.successors.specs.Tasks.{plan, silentTasks, labelTasks, tasksOf}
 use Rattle.moves.specs.declared.step.Step.{Step}
 use Rattle.moves.specs.declared.step.Label.the-variants.{Output, Input, Silent}
 use Rattle.successors.specs.declared.tasks.Tasks.{Tasks}
 
 module _ (v : Step) (last k : ℕ) where
-  pub tasks-two : v .mode ≡ 0 → record {
-    first = v .sender .at;
-    task = Build (plan (v .sender .mark) 0 0 (v .taker .next) 0) k;
-    second = v .taker .at;
-    other = Build (plan 0 (v .taker .mark) 0 0 last) (v .sender .next);
-  } ≡ silentTasks v last k
-  tasks-two e = rw (eq-eqb (v .mode) 0 e, silentTasks)
+  pub tasks-two : {a b : Plan} → a ≡ plan (v .sender .mark) 0 0 (v .taker .next) 0 → b ≡ plan 0 (v .taker .mark) 0 0 last → v .mode ≡ 0
+      → record { first = v .sender .at; task = Build a k; second = v .taker .at; other = Build b (v .sender .next) } ≡ silentTasks v last k
+  tasks-two sends takes e = rw (sends, takes, eq-eqb (v .mode) 0 e, silentTasks)
 
   module _ {b : Plan} (still : b ≡ plan 0 0 0 0 0) where
-    pub tasks-copies : (v .mode ≡ 0 → ⊥) → record {
+    pub tasks-copies : {c : CopyAt} → c ≡ stepCopies v → (v .mode ≡ 0 → ⊥) → record {
       first = v .sender .at;
-      task = BuildIn (plan (v .sender .mark) (v .taker .mark) (v .sender .next) (v .taker .next) last)
-          (record { place = v .copy; mode = v .mode; second = v .sender .next }) k;
+      task = BuildIn (plan (v .sender .mark) (v .taker .mark) (v .sender .next) (v .taker .next) last) c k;
       second = v .sender .at;
       other = Build b k;
     } ≡ silentTasks v last k
-    tasks-copies e = rw (still, ne-eqb (v .mode) 0 e, silentTasks)
+    tasks-copies copies e = rw (still, copies, ne-eqb (v .mode) 0 e, silentTasks)
 
-    pub tasks-output : v .label ≡ Output → record {
-      first = v .sender .at;
-      task = Build (plan (v .sender .mark) 0 0 (v .sender .next) 0) k;
-      second = v .sender .at;
-      other = Build b k;
-    } ≡ tasksOf v last k
-    tasks-output e = rw (still, e, labelTasks)
+    pub tasks-output : {a : Plan} → a ≡ plan (v .sender .mark) 0 0 (v .sender .next) 0 → v .label ≡ Output
+        → record { first = v .sender .at; task = Build a k; second = v .sender .at; other = Build b k } ≡ tasksOf v last k
+    tasks-output sends e = rw (still, sends, e, labelTasks)
 
-    pub tasks-input : v .label ≡ Input → record {
-      first = v .taker .at;
-      task = Build (plan 0 (v .taker .mark) 0 0 (v .taker .next)) k;
-      second = v .taker .at;
-      other = Build b k;
-    } ≡ tasksOf v last k
-    tasks-input e = rw (still, e, labelTasks)
+    pub tasks-input : {a : Plan} → a ≡ plan 0 (v .taker .mark) 0 0 (v .taker .next) → v .label ≡ Input
+        → record { first = v .taker .at; task = Build a k; second = v .taker .at; other = Build b k } ≡ tasksOf v last k
+    tasks-input takes e = rw (still, takes, e, labelTasks)
 
   pub tasks-silent : {r : Tasks} → v .label ≡ Silent → r ≡ silentTasks v last k → r ≡ tasksOf v last k
   tasks-silent e f = rw (e, labelTasks) f

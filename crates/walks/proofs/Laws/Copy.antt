@@ -11,7 +11,8 @@ use Rattle.messages.specs.Buffer.{Within}
 use Rattle.messages.proofs.Laws.Buffer.{unchanged}
 use Rattle.walks.specs.News.{news}
 use Rattle.states.specs.Course.{Going, Course, going, over-limit, found, named, returned}
-use Rattle.threads.specs.Machine.{opening, opened, go}
+use Rattle.threads.specs.Machine.{opening, opened}
+use Rattle.walks.specs.Walking.{go}
 use Rattle.states.specs.Shown.{Shows, ShowsCourse}
 use Rattle.walks.specs.Walk.{NamesFit, Meant, Ready, Walks, Returns, Opens}
 use Rattle.states.specs.Progress.{Renamed}

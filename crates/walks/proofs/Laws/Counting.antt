@@ -15,7 +15,8 @@ use Rattle.meaning.proofs.Test.{any-append}
 use Rattle.meaning.proofs.Steps.Enumeration.Copies.{result-repl}
 use Rattle.states.specs.Place.{thenAt, elseAt, bodyAt, rightAt, restAt}
 use Rattle.states.specs.Course.{Going, Course, going, further, unless, named}
-use Rattle.threads.specs.Machine.{opening, offered, opened, atPrefix, atRepl, go}
+use Rattle.threads.specs.Machine.{opening, offered, opened, atRepl}
+use Rattle.walks.specs.Walking.{atPrefix, go}
 use Rattle.threads.specs.declared.task.Task.{Task}
 use Rattle.threads.specs.declared.task.Task.the-variants.{Count, Judge, Settle}
 

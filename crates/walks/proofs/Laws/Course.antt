@@ -15,7 +15,8 @@ use Rattle.meaning.proofs.Test.{chosen}
 use Rattle.states.specs.Place.{thenAt, elseAt, bodyAt, rightAt, restAt}
 use Rattle.states.specs.Record.{boundOf}
 use Rattle.states.specs.Course.{Going, Course, going, over-limit, found, further, unless, named, returned, push}
-use Rattle.threads.specs.Machine.{opening, opened, offered, sought, built, atPrefix, atRepl, go}
+use Rattle.threads.specs.Machine.{opening, opened, offered, sought, atRepl}
+use Rattle.walks.specs.Walking.{built, atPrefix, go}
 use Rattle.repls.specs.Copies.{copiesAt, openedBy, firstly, lastly}
 use Rattle.repls.proofs.Laws.Copies.{as-decided}
 use Rattle.walks.specs.News.{news, laterNews}

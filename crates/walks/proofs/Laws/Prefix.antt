@@ -16,7 +16,7 @@ use Rattle.terms.proofs.Theorems.{boundFurther}
 use Rattle.states.specs.Place.{thenAt, bodyAt, restAt}
 use Rattle.walks.specs.News.{news}
 use Rattle.states.specs.Course.{Going, Course, named, returned, push}
-use Rattle.threads.specs.Machine.{built, atPrefix, go}
+use Rattle.walks.specs.Walking.{built, atPrefix, go}
 use Rattle.states.specs.Shown.{Shows, ShowsCourse}
 use Rattle.walks.specs.Walk.{NamesFit, Ready, Returns, AtPrefix, ActsAs, Follows, Receives}
 use Rattle.states.specs.Progress.{Stopped, Renamed}

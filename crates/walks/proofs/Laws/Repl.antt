@@ -13,7 +13,8 @@ use Rattle.messages.specs.Buffer.{Within}
 use Rattle.messages.proofs.Laws.Buffer.{unchanged}
 use Rattle.walks.specs.News.{news}
 use Rattle.states.specs.Course.{Going, going, further, named, returned}
-use Rattle.threads.specs.Machine.{holds, sending, taking, atRepl, go}
+use Rattle.threads.specs.Machine.{holds, sending, taking, atRepl}
+use Rattle.walks.specs.Walking.{go}
 use Rattle.repls.specs.Copies.{within, seeking, target, seekingIn, passes, finding, taken, builder, rebuilt, buildingIn}
 use Rattle.repls.specs.Copies.{copiesAt, openedBy, firstly, inCopies, Decided, Begins, Finishes}
 use Rattle.states.specs.Shown.{Shows, ShowsCourse}

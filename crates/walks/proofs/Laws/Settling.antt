@@ -22,7 +22,8 @@ use Rattle.meaning.proofs.Judging.Alike.{copiesAlike}
 use Rattle.states.specs.Place.{thenAt, elseAt, bodyAt, rightAt}
 use Rattle.states.specs.Record.{Placed}
 use Rattle.states.specs.Course.{Going, Course, going, further, unless, named, push}
-use Rattle.threads.specs.Machine.{offered, opened, atPrefix, atRepl, go}
+use Rattle.threads.specs.Machine.{offered, opened, atRepl}
+use Rattle.walks.specs.Walking.{atPrefix, go}
 use Rattle.walks.specs.Settled.{settledAt, threadsOf, settledTo, overSettled}
 use Rattle.threads.specs.declared.task.Task.the-variants.{Judge, Settle}
 use Rattle.walks.proofs.Laws.Course.{Ends, ends, stopped, ends-unless, ends-further}

@@ -27,7 +27,7 @@ use Rattle.terms.proofs.Laws.Work.{said-over, said-small}
 use Rattle.terms.proofs.Theorems.{boundFurther}
 use Rattle.states.specs.Place.{ProcessAt, thenAt, elseAt, rightAt}
 use Rattle.states.specs.Course.{Going, Course, going, over-limit, found, further, named}
-use Rattle.threads.specs.Machine.{go}
+use Rattle.walks.specs.Walking.{go}
 use Rattle.states.specs.Shown.{Shows, ShowsCourse}
 use Rattle.walks.specs.Walk.{NamesFit, Ready, NodeWalks, WalksIf, Walks, AtPrefix}
 use Rattle.states.specs.Progress.{Stopped, Renamed}

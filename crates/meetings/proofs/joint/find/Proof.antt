@@ -1,7 +1,7 @@
 -- `meetings::joint::find` meets its contract. Assumes nothing.
 use borrow.Author.Needs.{needs}
 use Rattle.states.proofs.Laws.Progress.{to-ends}
-use Rattle.walks.proofs.Laws.Visit.{behind}
+use Rattle.forms.proofs.Laws.Visit.{behind}
 use Rattle.meetings.proofs.Laws.Find.{finds}
 use Rattle.meetings.proofs.joint.find.Statement.{statement}
 use Rattle.meetings.proofs.joint.find.Tie as tie

@@ -1,6 +1,6 @@
 -- `meetings::meet::left_out` meets its contract. Assumes nothing.
 use borrow.Author.Needs.{needs}
-use Rattle.meetings.proofs.Laws.Taken.{marks-left}
+use Rattle.meetings.proofs.Laws.Takers.{marks-left}
 use Rattle.meetings.proofs.meet.left_out.Statement.{statement}
 use Rattle.meetings.proofs.meet.left_out.Tie as tie
 

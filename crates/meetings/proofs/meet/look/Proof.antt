@@ -1,7 +1,7 @@
 -- `meetings::meet::look` meets its contract. Assumes nothing.
 use borrow.Author.Needs.{needs}
 use Rattle.states.proofs.Laws.Progress.{to-ends}
-use Rattle.walks.proofs.Laws.Visit.{behind}
+use Rattle.forms.proofs.Laws.Visit.{behind}
 use Rattle.meetings.proofs.Laws.Look.{looks}
 use Rattle.meetings.proofs.meet.look.Statement.{statement}
 use Rattle.meetings.proofs.meet.look.Tie as tie

@@ -1,6 +1,6 @@
 -- `meetings::meet::pair` meets its contract. Assumes nothing.
 use borrow.Author.Needs.{needs}
-use Rattle.meetings.proofs.Laws.Taken.{pairs-in}
+use Rattle.meetings.proofs.Laws.Takers.{pairs-in}
 use Rattle.meetings.proofs.meet.pair.Statement.{statement}
 use Rattle.meetings.proofs.meet.pair.Tie as tie
 

@@ -1,6 +1,6 @@
 -- `meetings::meet::taken` meets its contract. Assumes nothing.
 use borrow.Author.Needs.{needs}
-use Rattle.meetings.proofs.Laws.Taken.{takings}
+use Rattle.meetings.proofs.Laws.Takers.{takings}
 use Rattle.meetings.proofs.meet.taken.Statement.{statement}
 use Rattle.meetings.proofs.meet.taken.Tie as tie
 
@@ -10,7 +10,6 @@ taken-spec = tie.close (tie.spec
     (λ c. search needs)
     (λ c. search needs)
     (λ c. search needs)
-    (λ c κs. search needs)
     (λ c κs. search needs)
     (λ c. search needs)
     (λ c. search needs)

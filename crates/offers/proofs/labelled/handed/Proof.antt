@@ -8,15 +8,9 @@ use Rattle.offers.proofs.labelled.handed.Tie as tie
 pub handed-spec : {M : Type 1} → statement M
 handed-spec = tie.close (tie.spec
     (λ c. (search (needs, unchanged), search (needs, hands)))
-    (λ c. (search (needs, unchanged), search (needs, hands)))
     (λ c. search needs)
     (λ c. search needs)
     (λ c κs. search needs)
-    (λ c. search needs)
-    (λ c. search needs)
-    (λ c. search needs)
-    (λ c. (search (needs, unchanged), search (needs, hands)))
-    (λ c. search needs)
     (λ c. search needs)
     (λ c. search needs)
     (λ c κs. search needs)

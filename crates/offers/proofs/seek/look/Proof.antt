@@ -2,7 +2,7 @@
 use borrow.Author.Needs.{needs}
 use Rattle.states.proofs.Laws.Progress.{to-ends}
 use Rattle.offers.proofs.Laws.Seek.{looks}
-use Rattle.walks.proofs.Laws.Visit.{behind}
+use Rattle.forms.proofs.Laws.Visit.{behind}
 use Rattle.offers.proofs.seek.look.Statement.{statement}
 use Rattle.offers.proofs.seek.look.Tie as tie
 

@@ -14,6 +14,7 @@ after-taker-spec = tie.close (tie.spec
     (λ c. search needs)
     (λ c. (search needs, (search needs, search (needs, takings))))
     (λ c κs. search needs)
+    (λ c κs. search needs)
     (λ c. search needs)
     (λ c. search needs)
     (λ c. (search needs, (search needs, search (needs, takings)))))

@@ -8,7 +8,9 @@ pub assign-spec : {M : Type 1} → statement M
 assign-spec = tie.close (tie.spec
     (λ c. search needs)
     (λ c κs. search needs)
+    (λ c κs. search needs)
     (λ c. search needs)
+    (λ c κs. search needs)
     (λ c κs. search needs)
     (λ c. search needs)
     (λ c κs. search needs)

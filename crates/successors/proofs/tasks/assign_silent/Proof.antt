@@ -6,6 +6,9 @@ use Rattle.successors.proofs.tasks.assign_silent.Tie as tie
 
 pub assign-silent-spec : {M : Type 1} → statement M
 assign-silent-spec = tie.close (tie.spec
+    (λ c κs. search needs)
+    (λ c κs. search needs)
     (λ c. search (needs, assignings))
+    (λ c κs. search needs)
     (λ c κs. search needs)
     (λ c. search (needs, assignings)))

@@ -1,0 +1,4 @@
+-- The laws by which the functions meet their contracts. Assumes nothing.
+pub mod Form
+pub mod Small
+pub mod Visit

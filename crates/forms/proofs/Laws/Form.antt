@@ -1,0 +1,204 @@
+-- The start state as it is formed, or over a limit ("Steps"; "Judging and its count"). Assumes nothing.
+use mathlib.Core.Path.{_≡_, refl, sym, ap, _∙_}
+use mathlib.Core.Bool.{Bool, true, false, _||_, true≢false}
+use mathlib.Core.List.{List, [], _∷_, _++_}
+use Rattle.meaning.specs.Messages.Term.{leaf, public}
+use Rattle.meaning.specs.Messages.Normal.{normal}
+use Rattle.meaning.proofs.Messages.{normalForms}
+use Rattle.messages.specs.Encoding.{encodeNode, encodeMessage}
+use Prim.Native.Nat.{ℕ, _+_, _≤_, _<_}
+use native.Mathlib.Omega.{arith}
+use borrow.Author.Tests.{ltb-true, ltb-false}
+use lib.Dec.{ltb}
+use lib.ListN.{length, length-append}
+use Rattle.meaning.specs.Bytes.Process.{output, input, Process, nil, new, act, if, let-in, par, repl}
+use Rattle.meaning.specs.Bytes.Encoding.{encodeTerm, encodeProcess}
+use Rattle.meaning.specs.Bytes.WellFormed.{IsModel}
+use Rattle.meaning.specs.Places.{none}
+use Rattle.meaning.specs.Steps.State.{names, settle, start}
+use Rattle.meaning.specs.Logic.Truth.{anyOf}
+use Rattle.meaning.specs.Judging.Limits.{boundNodes, threadNodes, overSettling, overOffers, overState}
+use Rattle.meaning.specs.Judging.Visits.{startArrival}
+use Rattle.meaning.proofs.Bytes.Reading.Place.{whole-stands}
+use Rattle.meaning.proofs.Test.{neither}
+use Rattle.messages.specs.Buffer.{Within}
+use Rattle.terms.specs.Bound.{encodeBound}
+use Rattle.states.specs.Place.{ProcessAt}
+use Rattle.states.specs.Record.{encodeRecords}
+use Rattle.states.specs.Room.{freshState}
+use Rattle.walks.specs.News.{news}
+use Rattle.states.specs.Course.{Going, going, unless}
+use Rattle.states.specs.Shown.{Shows, ShowsCourse}
+use Rattle.walks.specs.Walk.{Ready, Walks}
+use Rattle.walks.specs.Settled.{settledAt, settledTo, overSettled}
+use Rattle.states.specs.Progress.{Extends}
+use Rattle.forms.specs.Form.{StateAt, stateOf, overArrival, Forms, Starts, Finishes}
+use Rattle.states.specs.declared.state.State.{State}
+use Rattle.forms.specs.declared.form.Formed.{Formed}
+use Rattle.forms.specs.declared.form.Formed.the-variants.{At, OverLimit}
+use Rattle.threads.specs.declared.task.Task.the-variants.{Settle}
+use Rattle.states.specs.declared.progress.Progress.{Progress}
+use Rattle.walks.proofs.Laws.Settling.{settled-threads, settles}
+
+-- A walk that is done: within the limits, with too many names, or over another limit.
+module _ {now : Progress} where
+  pub finish-at : now .going ≡ true → now .names ≤ 128 → Finishes now (At (stateOf now))
+  finish-at on h = record {
+    over = λ off. absurd (true≢false (sym on ∙ off));
+    many = λ l. absurd (omega arith);
+    state = λ _ _. refl;
+  }
+
+  pub finish-many : 128 < now .names → Finishes now OverLimit
+  finish-many h = record { over = λ _. refl; many = λ _. refl; state = λ _ l. absurd (omega arith) }
+
+  pub finish-over : now .going ≡ false → Finishes now OverLimit
+  finish-over off = record { over = λ _. refl; many = λ _. refl; state = λ on _. absurd (true≢false (sym on ∙ off)) }
+
+pub ruleset finishes = (finish-at, finish-many, finish-over)
+
+-- Every `new` has a byte of its own.
+news-few : (P : Process) → news P ≤ length (encodeProcess P)
+unfolding encodeProcess
+news-few nil = omega arith
+news-few (new P) = omega (arith, news-few P)
+news-few (act (output C M) P) =
+    omega (arith, news-few P, length-append (encodeTerm C ++ encodeTerm M) (encodeProcess P))
+news-few (act (input C) P) = omega (arith, news-few P, length-append (encodeTerm C) (encodeProcess P))
+news-few (if M N P Q) =
+    omega (
+      arith,
+      news-few P,
+      news-few Q,
+      length-append (encodeTerm M ++ encodeTerm N ++ encodeProcess P) (encodeProcess Q),
+      length-append (encodeTerm M ++ encodeTerm N) (encodeProcess P),
+    )
+news-few (let-in M P) = omega (arith, news-few P, length-append (encodeTerm M) (encodeProcess P))
+news-few (par P Q) = omega (arith, news-few P, news-few Q, length-append (encodeProcess P) (encodeProcess Q))
+news-few (repl P) = omega (arith, news-few P)
+
+-- A model stands in its own slice.
+model-stands : (s : List ℕ) (P : Process) → IsModel s P → ProcessAt s 0 64 0 P (length s)
+model-stands s P w = record {
+  stands = rw (w .encoded) (whole-stands s);
+  deep = w .nodes;
+  terms = w .terms;
+  scoped = w .scoped;
+  few = omega (arith, w .bound);
+}
+
+-- The tests of a state in another order.
+or-five : (o t n c a : Bool) → (o || (t || n || c || a)) ≡ ((o || (t || c || a)) || n)
+or-five true t n c a = refl
+or-five false true n c a = refl
+or-five false false true true a = refl
+or-five false false true false true = refl
+or-five false false true false false = refl
+or-five false false false true a = refl
+or-five false false false false true = refl
+or-five false false false false false = refl
+
+-- What the walk begins with.
+abbrev empty : Going
+empty = record { names = 0; nodes = 0; threads = [] }
+
+over-start : (P : Process) → overArrival (startArrival P) ≡ (overSettled P [] empty || ltb 128 (names P [] 0))
+unfolding overState start boundNodes
+over-start P =
+    let ts = settle P [] 0 in
+    let many : 0 + length ts ≡ length ts = omega arith in
+    let nodes : 0 + threadNodes ts ≡ threadNodes ts + 0 = omega arith in
+    rw (many, nodes)
+    (or-five (overSettling P [] 0) (ltb 32 (length ts)) (ltb 128 (names P [] 0)) (ltb 1024 (threadNodes ts + 0))
+    (anyOf (λ t. overOffers t (names P [] 0)) ts))
+
+-- The start state, from what the walk has come to.
+module _ {s label m out after : List ℕ} {begin : ℕ} {f : State} {w : Progress} {r : Formed} (fresh : f ≡ freshState begin begin 0)
+    (v : Walks s label 0 64 m 0 Settle out (record { going = true; names = 0; mark = 0; sent = 0; state = f }) w after)
+    (x : Extends (record { going = true; names = 0; mark = 0; sent = 0; state = f }) w) (n : Finishes w r) where
+  begins : begin + 3964 ≤ length out → Shows s out (record { going = true; names = 0; mark = 0; sent = 0; state = f }) empty
+  unfolding encodeRecords
+  begins h = rw fresh (record {
+    on = refl;
+    names = refl;
+    threads = refl;
+    nodes = refl;
+    records = record { bytes = refl; size = omega arith };
+    size = omega arith;
+    few = omega arith;
+    light = omega arith;
+    room = h;
+    standing = none;
+  })
+
+  ready : (P : Process) → IsModel s P → 10750 ≤ length m → label ≡ 16 ∷ 0 ∷ [] → Ready s label 0 64 m 0 Settle P (leaf (public 0)) [] empty
+  unfolding encodeBound encodeMessage encodeNode normal
+  ready P w l e = record {
+    next = length s;
+    process = model-stands s P w;
+    shallow = omega arith;
+    short = w .short;
+    labelled = e;
+    small = rw e (omega arith);
+    normal = normalForms (leaf (public 0)) .0;
+    bound = record { stands = record { bytes = refl; size = omega arith }; few = omega arith; normal = none };
+    room = omega (arith, w .bound);
+    fits = record { own = omega (arith, news-few P, w .short, ap length (w .encoded)); others = none };
+    meant = tt;
+  }
+
+  begun : w .state .aliases ≡ begin
+  begun = x .aliases ∙ ap (λ (z : State). z .aliases) fresh
+
+  -- The walk went on to the end, and made few enough names.
+  stands-formed : (P : Process) → Shows s after w (settledTo P 0 [] empty) → StateAt s after (stateOf w) (start P)
+  unfolding start encodeBound boundNodes
+  stands-formed P d =
+      let first : w .state .aliases ≡ w .state .start = begun ∙ sym (x .start ∙ ap (λ (z : State). z .start) fresh) in
+      record {
+        aliases = record {
+          stands = rw first (record { bytes = refl; size = omega arith });
+          few = omega arith;
+          normal = none;
+        };
+        placed = settledAt P 0 [] 0;
+        threads = settled-threads P 0 [] 0;
+        records = d .records;
+        standing = d .standing;
+        many = d .threads;
+        nodes = omega (arith, d .nodes);
+        names = d .names;
+        size = omega (arith, d .size, d .threads, d .nodes);
+      }
+
+  -- The limits in turn.
+  by-names : (P : Process) (c : Bool) → overSettled P [] empty ≡ false → ltb 128 (names P [] 0) ≡ c
+      → Shows s after w (settledTo P 0 [] empty) → Forms s begin (startArrival P) r after
+  by-names P true e l d = record {
+    none = λ _. n .many (rw (d .names) (ltb-true 128 (names P [] 0) l));
+    some = λ q. absurd (true≢false (sym l ∙ neither (overSettled P [] empty) (ltb 128 (names P [] 0)) (sym (over-start P) ∙ q) .1));
+  }
+  by-names P false e l d = record {
+    none = λ q. absurd (true≢false (sym q ∙ over-start P ∙ rw (e, l)));
+    some = λ _. (stateOf w, n .state (d .on) (rw (d .names) (ltb-false 128 (names P [] 0) l)), stands-formed P d, begun);
+  }
+
+  by-limits : (P : Process) (b : Bool) → overSettled P [] empty ≡ b → ShowsCourse s after w (unless b (going (settledTo P 0 [] empty)))
+      → Forms s begin (startArrival P) r after
+  by-limits P true e off = record {
+    none = λ _. n .over (off .off);
+    some = λ q. absurd (true≢false (sym e ∙ neither (overSettled P [] empty) (ltb 128 (names P [] 0)) (sym (over-start P) ∙ q) .0));
+  }
+  by-limits P false e d = by-names P (ltb 128 (names P [] 0)) e refl d
+
+  pub start-formed : 10750 ≤ length m → label ≡ 16 ∷ 0 ∷ [] → begin + 3964 ≤ length out → Starts s begin r after
+  start-formed l e o = record {
+    exact = λ P y. by-limits P (overSettled P [] empty) refl (
+        rw (← settles P (leaf (public 0)) 0 [] empty none (omega arith) (omega arith)) (v .walks .exact P (leaf (public 0)) [] empty (ready P y l e) (begins o))
+        );
+  }
+
+-- Nothing below the position is written.
+pub start-bytes : {out after : List ℕ} {begin high : ℕ} {f : State} → Within (f .end) high out after
+    → f ≡ freshState begin begin 0 → Within begin high out after
+start-bytes w e = rw (ap (λ (z : State). z .end) e) at w

@@ -1,0 +1,118 @@
+-- A walk over a thread that is loaded from its record ("Steps"). Assumes nothing.
+use mathlib.Core.Path.{_≡_, refl, ap, subst}
+use mathlib.Core.List.{List, _++_}
+use Prim.Native.Nat.{ℕ, _+_, _*_, _≤_}
+use native.Mathlib.Omega.{arith}
+use lib.ListN.{length, drop, length-append, length-drop}
+use Rattle.meaning.specs.Messages.Term.{Message}
+use Rattle.meaning.specs.Bytes.Process.{output, input, Process}
+use Rattle.meaning.specs.Bytes.Encoding.{encodeTerm, encodeProcess}
+use Rattle.meaning.specs.Bytes.Standing.{Stands}
+use Rattle.meaning.specs.Places.{none, _also_}
+use Rattle.meaning.proofs.Every.{every-map}
+use Rattle.messages.specs.Buffer.{Within}
+use Rattle.terms.specs.Bound.{encodeBound}
+use Rattle.states.specs.Place.{ProcessAt}
+use Rattle.states.specs.Record.{Placed, processOf, boundOf, encodeRecords}
+use Rattle.states.specs.Room.{freshState}
+use Rattle.walks.specs.News.{news}
+use Rattle.states.specs.Course.{Going}
+use Rattle.walks.specs.Walking.{go}
+use Rattle.states.specs.Shown.{Shows, ShowsCourse}
+use Rattle.walks.specs.Walk.{NamesFit, Meant, Walks}
+use Rattle.states.specs.Stored.{Loads}
+use Rattle.threads.specs.declared.task.Task.{Task}
+use Rattle.states.specs.declared.stored.Loaded.{Loaded}
+use Rattle.states.specs.declared.progress.Progress.{Progress}
+use Rattle.states.proofs.Laws.Progress.{to-end}
+use Rattle.walks.proofs.Laws.Fits.{later-fewer}
+use Rattle.forms.specs.Visit.{nothingYet, Begins, Labelled, RecordAt, NamesSmall, Visits}
+use Rattle.forms.proofs.Laws.Small.{bound-few}
+
+-- Every `new` node takes a byte.
+pub news-short : (P : Process) → news P ≤ length (encodeProcess P)
+unfolding encodeProcess
+news-short Process.nil = omega arith
+news-short (Process.new P) = omega (arith, news-short P)
+news-short (Process.act (output C M) P) =
+    omega (arith, news-short P, length-append (encodeTerm C ++ encodeTerm M) (encodeProcess P))
+news-short (Process.act (input C) P) = omega (arith, news-short P, length-append (encodeTerm C) (encodeProcess P))
+news-short (Process.if M N P Q) =
+    omega (
+      arith,
+      news-short P,
+      news-short Q,
+      length-append (encodeTerm M ++ encodeTerm N ++ encodeProcess P) (encodeProcess Q),
+      length-append (encodeTerm M ++ encodeTerm N) (encodeProcess P),
+    )
+news-short (Process.let-in M P) = omega (arith, news-short P, length-append (encodeTerm M) (encodeProcess P))
+news-short (Process.par P Q) = omega (arith, news-short P, news-short Q, length-append (encodeProcess P) (encodeProcess Q))
+news-short (Process.repl P) = omega (arith, news-short P)
+
+-- What stands in a slice is no longer than it.
+stands-short : {s xs : List ℕ} {at end : ℕ} → Stands s at xs end → length xs ≤ length s
+stands-short {s} {xs} {at} {end} p = omega (arith, ap length (p .bytes), length-append xs (drop end s), length-drop at s)
+
+-- Small names fit whatever process stands in a model.
+pub names-small : {s : List ℕ} {at left scope next : ℕ} (T : Task) (n : ℕ) (P : Process) → ProcessAt s at left scope P next → length s ≤ 4096
+    → NamesSmall T n → NamesFit T n P
+names-small T n P p l (a also rest) =
+    let few : news P ≤ 4096 = omega (arith, news-short P, stands-short (p .stands)) in
+    record { own = omega arith; others = every-map (λ k h. omega (arith, later-fewer P)) rest }
+
+-- The messages of a thread within the limits take 512 bytes each at most.
+pub bound-short : {s out : List ℕ} {at next : ℕ} (t : Placed) → RecordAt s out at t next
+    → length (encodeBound (boundOf (t .thread))) ≤ 512 * length (boundOf (t .thread))
+bound-short t h = bound-few (h .small)
+
+-- So they are loaded, and the walk finds room above them.
+pub visited : {s label m m₁ out after : List ℕ} {at : ℕ} {T : Task} {now r : Progress} {l : Loaded} → Loads out at l m₁
+    → Within 0 (l .end) m m₁ → Walks s label (l .place) 64 m₁ (l .end) T out now r after → Visits s label at m T out now r after
+visited {s} {label} {m} {m₁} {out} {after} {at} {T} {now} {r} {l} d w v = record { exact = one }
+  where
+    one : (t : Placed) (x : Message) (g : Going) {next : ℕ} → RecordAt s out at t next → Labelled label x → length s ≤ 4096
+        → 10750 ≤ length m → NamesSmall T (g .names) → Meant s T → Shows s out now g
+        → ShowsCourse s after r (go (processOf (t .thread)) T x (t .place) (boundOf (t .thread)) g)
+    one t x g h i short room names meant shows =
+        let ρ = boundOf (t .thread) in
+        let P = processOf (t .thread) in
+        let size = bound-short t h in
+        let few = h .standing .process .few in
+        let (place, next, stands) = d .exact t (h .stands) (h .standing .fits) (omega arith) (omega (arith, w .long)) in
+        subst (λ (n : ℕ). ShowsCourse s after r (go P T x n ρ g)) place
+        (v .walks .exact P x ρ g (record {
+          next = h .standing .next;
+          process = rw place (h .standing .process);
+          shallow = omega arith;
+          short = short;
+          labelled = i .same;
+          small = i .small;
+          normal = i .normal;
+          bound = record { stands = stands; few = omega arith; normal = h .standing .normal };
+          room = omega (arith, w .long, stands .size);
+          fits = names-small T (g .names) P (h .standing .process) short names;
+          meant = meant;
+        }) shows)
+
+-- Nothing has been written yet.
+pub begins-shown : {s out : List ℕ} {to n : ℕ} (now : Progress) → Begins to n now → to + 3964 ≤ length out → Shows s out now (nothingYet n)
+unfolding encodeRecords
+begins-shown {s} {out} {to} {n} now b l =
+    let e : now .state ≡ freshState to to 0 = b .state in
+    record {
+      on = b .on;
+      names = b .next;
+      threads = rw e;
+      nodes = rw e;
+      records = rw e (record { bytes = refl; size = omega arith });
+      size = rw e (omega arith);
+      few = omega arith;
+      light = omega arith;
+      room = rw e l;
+      standing = none;
+    }
+
+-- What the walks write stands behind the state.
+pub behind : {to n : ℕ} {now : Progress} {out out₁ : List ℕ} {high : ℕ} → Begins to n now → Within (now .state .end) high out out₁
+    → Within to (length out) out out₁
+behind b w = let ends = b .state in to-end (rw ends at w)

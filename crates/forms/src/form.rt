@@ -1,0 +1,59 @@
+// States that are formed, or found to be over a limit ("Steps", the start state; "Judging and its count").
+use states::progress::Progress;
+use states::state::State;
+use threads::task::Task;
+use walks::walk;
+ghost use Prim.Native.Nat.{_+_, _≤_};
+ghost use lib.ListN.{length};
+ghost use Rattle.messages.specs.Buffer.{Within};
+ghost use Rattle.forms.specs.Form.{Finishes, Starts};
+
+// A state within its limits, or none.
+pub enum Formed {
+    At(State),
+    OverLimit,
+}
+
+// The most process nodes on one path.
+const NODES: usize = 64;
+
+// What a walk has written, as a state with the private names that it has made.
+pub fn finish(done: Progress) -> Formed
+    ensures { λ r. ⌜ Finishes done r ⌝ }
+{
+    let going = done.going;
+    let names = done.names;
+    let state = done.state;
+    if going {
+        if names <= State::NAMES {
+            return Formed::At(State {
+                aliases: state.aliases,
+                start: state.start,
+                end: state.end,
+                threads: state.threads,
+                nodes: state.nodes,
+                names: names,
+            });
+        }
+    }
+    Formed::OverLimit
+}
+
+// The start state of the model that the slice s is, written into the work bytes from a position on. The bytes m are for the messages
+// that are bound on the way.
+pub fn start(s: &[u8], m: &mut [u8], out: &mut [u8], begin: usize) -> Formed
+    requires { ⌜ (length (now s) ≤ 4096) × (10750 ≤ length (now m)) × (begin + 3964 ≤ length (now out)) ⌝ }
+    ensures { λ _. ⌜ Within 0 (length (now (m .entry))) (now (m .entry)) (now (m .exit)) ⌝ }
+    ensures { λ _. ⌜ Within begin (length (now (out .entry))) (now (out .entry)) (now (out .exit)) ⌝ }
+    ensures { λ r. ⌜ Starts (now (s .entry)) begin r (now (out .exit)) ⌝ }
+{
+    let label: [u8; 2] = [16, 0];
+    let fresh = Progress {
+        going: true,
+        names: 0,
+        mark: 0,
+        sent: 0,
+        state: State::fresh(begin, begin, 0),
+    };
+    finish(walk::walk(s, &label[0..2], 0, NODES, m, 0, Task::Settle, out, fresh))
+}

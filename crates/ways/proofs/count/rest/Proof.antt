@@ -1,0 +1,26 @@
+-- `ways::count::rest` meets its contract. Assumes nothing.
+use borrow.Author.Needs.{needs}
+use Rattle.messages.proofs.Laws.Buffer.{unchanged}
+use Rattle.states.proofs.Laws.Progress.{to-end-bound}
+use Rattle.ways.proofs.Laws.Reach.{rests-counted}
+use Rattle.ways.proofs.count.rest.Statement.{statement}
+use Rattle.ways.proofs.count.rest.Tie as tie
+
+pub rest-spec : {M : Type 1} → statement M
+rest-spec = tie.close (tie.spec
+    (λ c. (search (needs, unchanged), (search (needs, unchanged), search (needs, rests-counted))))
+    (λ c. (search (needs, unchanged), (search (needs, unchanged), search (needs, rests-counted))))
+    (λ c. search needs)
+    (λ c. (search (needs, unchanged), (search (needs, unchanged), search (needs, rests-counted))))
+    (λ c. search needs)
+    (λ c κs. search needs)
+    (λ c κs. search needs)
+    (λ c. search needs)
+    (λ c. search needs)
+    (λ c. (search needs, (search needs, search (needs, rests-counted))))
+    (λ c. (search (needs, unchanged), (search (needs, unchanged), search (needs, rests-counted))))
+    (λ c κs. search needs)
+    (λ c κs. search needs)
+    (λ c. search needs)
+    (λ c. search needs)
+    (λ c. (search (needs, to-end-bound), (search needs, search (needs, rests-counted)))))

@@ -1,0 +1,144 @@
+// The private names that a process takes, and those of what follows an offer ("Steps"). Nothing is validated again: where no process stands,
+// the answer is open.
+use messages::node;
+use states::progress::Progress;
+use terms::bind;
+use threads::place;
+use threads::task::Task;
+use walks::walk;
+ghost use Prim.Native.Nat.{_≤_, _<_};
+ghost use lib.ListN.{length};
+ghost use Rattle.messages.specs.Buffer.{Within};
+ghost use Rattle.ways.specs.Reach.{Restarts, Takes, CountsAfter, CountsRest};
+
+// The kind of an output.
+const OUTPUT: usize = 2;
+
+// How many bytes above the bound messages a walk may need to work terms.
+const REACH: usize = 4606;
+
+// The most bytes of a label.
+const LABEL: usize = 510;
+
+// The private name after those that were counted; or a limit was met.
+pub enum Counted {
+    Names(usize),
+    OverLimit,
+}
+
+// A walk over the same state, from another private name on.
+fn restart(done: Progress, names: usize) -> Progress
+    ensures { λ r. ⌜ Restarts done names r ⌝ }
+{
+    let state = done.state;
+    Progress {
+        going: true,
+        names: names,
+        mark: 0,
+        sent: 0,
+        state: state,
+    }
+}
+
+// The private name after those that the process at a position takes, if it is settled at the private name names.
+pub fn taken(
+    s: &[u8],
+    label: &[u8],
+    at: usize,
+    left: usize,
+    m: &mut [u8],
+    end: usize,
+    names: usize,
+    out: &mut [u8],
+    done: Progress,
+) -> usize
+    requires { ⌜ (end ≤ length (now m)) × (length (now s) ≤ 4096) ⌝ }
+    ensures { λ _. ⌜ Within end (length (now (m .entry))) (now (m .entry)) (now (m .exit)) ⌝ }
+    ensures { λ _. ⌜ Within (done .state .end) (length (now (out .entry))) (now (out .entry)) (now (out .exit)) ⌝ }
+    ensures { λ r. ⌜ Takes (now (s .entry)) (now (label .entry)) at left (now (m .entry)) end names (now (out .entry)) done r ⌝ }
+{
+    let counted = walk::walk(
+        s,
+        label,
+        at,
+        left,
+        m,
+        end,
+        Task::Count,
+        out,
+        restart(done, names),
+    );
+    counted.names
+}
+
+// The private names of what follows the output or the input at a position, settled at the private name names, under the message of the label
+// too if it is an input.
+pub fn rest(
+    s: &[u8],
+    label: &[u8],
+    at: usize,
+    left: usize,
+    m: &mut [u8],
+    end: usize,
+    names: usize,
+    out: &mut [u8],
+    done: Progress,
+) -> Counted
+    requires { ⌜ (end ≤ length (now m)) × (length (now s) ≤ 4096) ⌝ }
+    ensures { λ _. ⌜ Within end (length (now (m .entry))) (now (m .entry)) (now (m .exit)) ⌝ }
+    ensures { λ _. ⌜ Within (done .state .end) (length (now (out .entry))) (now (out .entry)) (now (out .exit)) ⌝ }
+    ensures { λ r. ⌜ CountsRest (now (s .entry)) (now (label .entry)) at left (now (m .entry)) end names (now (out .entry)) done r ⌝ }
+{
+    if left == 0 {
+        return Counted::OverLimit;
+    }
+    if s.len() <= at {
+        return Counted::OverLimit;
+    }
+    if m.len() - end < REACH {
+        return Counted::OverLimit;
+    }
+    if node::wide(s[at]) == OUTPUT {
+        return count(s, label, at, left, m, end, names, out, done);
+    }
+    if LABEL < label.len() {
+        return Counted::OverLimit;
+    }
+    let last = bind::message(label, m, end);
+    count(s, label, at, left, m, last, names, out, done)
+}
+
+// The same under the messages that are bound up to the position end.
+fn count(
+    s: &[u8],
+    label: &[u8],
+    at: usize,
+    left: usize,
+    m: &mut [u8],
+    end: usize,
+    names: usize,
+    out: &mut [u8],
+    done: Progress,
+) -> Counted
+    requires { ⌜ (1 ≤ left) × (at < length (now s)) × (end ≤ length (now m)) × (length (now s) ≤ 4096) ⌝ }
+    ensures { λ _. ⌜ Within end (length (now (m .entry))) (now (m .entry)) (now (m .exit)) ⌝ }
+    ensures { λ _. ⌜ Within (done .state .end) (length (now (out .entry))) (now (out .entry)) (now (out .exit)) ⌝ }
+    ensures { λ r. ⌜ CountsAfter (now (s .entry)) (now (label .entry)) at left (now (m .entry)) end names (now (out .entry)) done r ⌝ }
+{
+    let counted = walk::walk(
+        s,
+        label,
+        place::rest(s, at),
+        left - 1,
+        m,
+        end,
+        Task::Count,
+        out,
+        restart(done, names),
+    );
+    let going = counted.going;
+    if going {
+        return Counted::Names(counted.names);
+    }
+    Counted::OverLimit
+}
