@@ -10,7 +10,7 @@ use Rattle.meaning.specs.Bytes.Standing.{Stands}
 use Rattle.meaning.specs.Places.{Every}
 use Rattle.meaning.specs.Steps.State.{Bound}
 use Rattle.meaning.specs.Judging.Limits.{boundNodes}
-use Rattle.messages.specs.Encoding.{encodeMessage}
+use Rattle.nodes.specs.Encoding.{encodeMessage}
 use Rattle.states.specs.Record.{Placed, processOf, boundOf, encodeRecord, Standing}
 use Rattle.states.specs.Room.{freshState}
 use Rattle.states.specs.Course.{Going}

@@ -5,7 +5,7 @@ use threads::task::Task;
 use walks::walk;
 ghost use Prim.Native.Nat.{_+_, _≤_};
 ghost use lib.ListN.{length};
-ghost use Rattle.messages.specs.Buffer.{Within};
+ghost use Rattle.nodes.specs.Buffer.{Within};
 ghost use Rattle.forms.specs.Form.{Finishes, Starts};
 
 // A state within its limits, or none.

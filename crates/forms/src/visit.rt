@@ -6,7 +6,7 @@ use threads::task::Task;
 use walks::walk;
 ghost use Prim.Native.Nat.{_+_, _≤_};
 ghost use lib.ListN.{length};
-ghost use Rattle.messages.specs.Buffer.{Within};
+ghost use Rattle.nodes.specs.Buffer.{Within};
 ghost use Rattle.states.specs.Progress.{Extends};
 ghost use Rattle.forms.specs.Visit.{Visits, Begins};
 

@@ -1,6 +1,4 @@
--- The laws by which numbers are read and ends are found. Assumes nothing.
+-- The laws by which ends are found. Assumes nothing.
 pub mod Table
-pub mod Number
-pub mod Bounded
 pub mod Standing
 pub mod Ends

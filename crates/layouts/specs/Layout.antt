@@ -1,5 +1,5 @@
 -- The kinds of terms, processes and formulas by their numbers, each with what follows it ("Bytes"). That `meaning` reads them so is
--- proved in the crate `reading`, proofs/Laws/Sorts.antt. Assumes nothing.
+-- proved in the crates `term_reading`, proofs/Laws/Terms.antt, and `reading`, proofs/Laws/Sorts.antt. Assumes nothing.
 use Prim.Native.Nat.{ℕ}
 use mathlib.Core.List.{List, [], _∷_}
 use lib.ListN.{getD}

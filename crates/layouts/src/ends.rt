@@ -3,7 +3,7 @@
 // left open, but it is never before the position.
 use crate::layout;
 use crate::layout::Layout;
-use crate::number;
+use numbers::number;
 ghost use Prim.Native.Nat.{_≤_};
 ghost use Rattle.layouts.specs.Ends.{NumbersEnd, TermEnd, TermsEnd, ProcessEnd, FormulaEnd};
 

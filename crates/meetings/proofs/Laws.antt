@@ -1,9 +1,4 @@
 -- The laws by which the functions meet their contracts. Assumes nothing.
-pub mod Shown
 pub mod Find
 pub mod ReplThreads
 pub mod Joint
-pub mod Look
-pub mod Senders
-pub mod Takers
-pub mod Meet

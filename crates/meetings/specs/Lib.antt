@@ -1,2 +1,1 @@
 pub mod Joint
-pub mod Meet

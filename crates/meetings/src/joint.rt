@@ -1,14 +1,14 @@
 // Silent steps of single threads, in their copies: repl thread by repl thread, one copy and then two ("Steps").
-use crate::meet;
 use forms::visit;
-use messages::node;
 use moves::step::Next;
+use nodes::node;
+use pairs::meet;
 use states::progress::Progress;
 use threads::task::Task;
 ghost use mathlib.Core.Path.{_≡_};
 ghost use Prim.Native.Nat.{_+_, _≤_};
 ghost use lib.ListN.{length};
-ghost use Rattle.messages.specs.Buffer.{Within};
+ghost use Rattle.nodes.specs.Buffer.{Within};
 ghost use Rattle.meetings.specs.Joint.{Finds, Joins, Passes};
 
 // Twice the most repl threads that the copies of one thread have, and one more.

@@ -1,3 +1,2 @@
-// Silent steps of one thread: a sender and a taker in one copy or in two of a repl thread ("Steps").
+// Silent steps of single threads, in their copies: repl thread by repl thread, in one copy and then in two ("Steps").
 pub mod joint;
-mod meet;

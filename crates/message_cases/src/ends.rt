@@ -1,8 +1,8 @@
 // The bound messages of a case, and what is asked of the last of them.
 use crate::tell;
 use crate::text;
-use messages::node;
-use terms::bind;
+use binds::bind;
+use nodes::node;
 use terms::work::Worked;
 
 // The bytes for bound messages, and the last position at which one more has room: `bind::term` asks for `bind::REACH` bytes.

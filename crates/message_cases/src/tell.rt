@@ -1,6 +1,6 @@
 // What is written behind a line.
 use libc::STDOUT_FILENO;
-use messages::run;
+use nodes::run;
 
 // A number behind a text.
 pub(crate) fn number(text: &[u8], n: usize) {

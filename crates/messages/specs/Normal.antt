@@ -6,7 +6,7 @@ use Rattle.meaning.specs.Messages.Term.{Side, Direction, opposite, cipher, side
 use Rattle.meaning.specs.Messages.Equation.{Normal}
 use Rattle.meaning.specs.Messages.Normal.{normal}
 use Rattle.meaning.specs.Bytes.Standing.{Stands}
-use Rattle.messages.specs.Encoding.{encodeMessage}
+use Rattle.nodes.specs.Encoding.{encodeMessage}
 
 -- The parts of a message are in normal form, whether or not it is itself.
 abbrev pub PartsNormal : Message → Type 0

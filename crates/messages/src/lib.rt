@@ -1,4 +1,2 @@
-// Messages as runs of bytes in a lent slice: size, comparison, copies and the normal form ("Messages").
-pub mod node;
+// The normal form of a message that is a run of bytes in a lent slice ("Messages").
 pub mod normal;
-pub mod run;

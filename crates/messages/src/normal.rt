@@ -1,10 +1,10 @@
 // The equations, applied at the top of a message whose parts are in normal form ("Messages").
-use crate::node;
-use crate::run;
-use crate::run::Part;
+use nodes::node;
+use nodes::run;
+use nodes::run::Part;
 ghost use Prim.Native.Nat.{_≤_};
 ghost use lib.ListN.{length};
-ghost use Rattle.messages.specs.Buffer.{Within};
+ghost use Rattle.nodes.specs.Buffer.{Within};
 ghost use Rattle.messages.specs.Normal.{Projects, Undoes, Survives, Normalised};
 
 // fst or snd, by its kind: of a pair, the first part or the second; else the whole.

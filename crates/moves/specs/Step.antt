@@ -7,7 +7,7 @@ use Prim.Native.Nat.{ℕ, _+_}
 use lib.ListN.{length}
 use Rattle.meaning.specs.Bytes.Process.{Prefix, output, input}
 use Rattle.meaning.specs.Steps.State.{worked}
-use Rattle.messages.specs.Encoding.{encodeMessage}
+use Rattle.nodes.specs.Encoding.{encodeMessage}
 use Rattle.positions.specs.Located.{Acting}
 use Rattle.positions.specs.Joint.{Joint}
 use Rattle.moves.specs.Spot.{Spot, recordAt}

@@ -1,7 +1,3 @@
 -- The laws by which the functions meet their contracts. Assumes nothing.
 pub mod Seek
-pub mod SeekMoves
-pub mod LabelledBehind
-pub mod LabelledMoves
 pub mod Hand
-pub mod Labelled

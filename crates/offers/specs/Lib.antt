@@ -1,3 +1,2 @@
 pub mod Hand
-pub mod Labelled
 pub mod Seek

@@ -1,5 +1,5 @@
 // The channel and the message of an output that a walk hands over in the work bytes, copied to where they stay ("Steps").
-use messages::run;
+use nodes::run;
 use states::stored;
 ghost use mathlib.Core.Path.{_≡_};
 ghost use lib.ListN.{length};
@@ -34,7 +34,7 @@ pub fn hand(out: &[u8], from: usize, channel: &mut [u8], message: &mut [u8]) -> 
 }
 
 // Copies the message that stands at a position to the front of a slice, and answers how many bytes it takes.
-pub(crate) fn one(out: &[u8], from: usize, to: &mut [u8]) -> usize
+pub fn one(out: &[u8], from: usize, to: &mut [u8]) -> usize
     ensures { λ r. ⌜ r ≤ length (now (to .entry)) ⌝ }
     ensures { λ _. ⌜ length (now (to .exit)) ≡ length (now (to .entry)) ⌝ }
     ensures { λ r. ⌜ Copies (now (out .entry)) from r (now (to .exit)) ⌝ }

@@ -1,4 +1,3 @@
-// Offers of the threads of a state: the next one that is sought, and the next output or input with a label ("Steps").
+// Offers of the threads of a state: the next one that is sought, and what it sends copied to where it stays ("Steps").
 pub mod hand;
-pub mod labelled;
 pub mod seek;

@@ -1,6 +1,6 @@
 // The next offer among the threads of a state that stands in the work bytes ("Steps").
 use forms::visit;
-use messages::node;
+use nodes::node;
 use states::progress::Progress;
 use states::state::State;
 use threads::task::Quest;
@@ -8,7 +8,7 @@ use threads::task::Task;
 ghost use mathlib.Core.Path.{_≡_};
 ghost use Prim.Native.Nat.{_+_, _≤_};
 ghost use lib.ListN.{length};
-ghost use Rattle.messages.specs.Buffer.{Within};
+ghost use Rattle.nodes.specs.Buffer.{Within};
 ghost use Rattle.offers.specs.Seek.{afresh, Looks, Seeks};
 
 // An offer: where the record of its thread stands, and what the walk over that thread found. Its mark is 0 where there is none.

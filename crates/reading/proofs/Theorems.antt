@@ -11,10 +11,10 @@ use Rattle.meaning.specs.Bytes.Number.{Read, found, refused}
 use Rattle.meaning.specs.Bytes.Reading.{readModel, readFormula}
 use Rattle.meaning.proofs.Bytes.Reading.{modelsRead, formulasRead}
 use Rattle.meaning.proofs.Bytes.Refusal.{modelsRefused, formulasRefused}
-use Rattle.layouts.specs.declared.answer.Answer.{Answer}
-use Rattle.layouts.specs.declared.answer.Answer.the-variants.{Ends, Refused}
-use Rattle.layouts.specs.Answer.{refusalNumber, answer, extent}
-use Rattle.layouts.proofs.Theorems.{answersFixed, never}
+use Rattle.numbers.specs.declared.answer.Answer.{Answer}
+use Rattle.numbers.specs.declared.answer.Answer.the-variants.{Ends, Refused}
+use Rattle.numbers.specs.Answer.{refusalNumber, answer, extent}
+use Rattle.numbers.proofs.Theorems.{answersFixed, never}
 use Rattle.reading.specs.Exact.{Exact, ModelAnswer, FormulaAnswer}
 use Rattle.reading.specs.Theorems.{ModelsExact, FormulasExact}
 

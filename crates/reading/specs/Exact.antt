@@ -6,10 +6,10 @@ use Prim.Native.Nat.{ℕ}
 use lib.ListN.{length}
 use Rattle.meaning.specs.Bytes.WellFormed.{IsModel, IsFormula}
 use Rattle.meaning.specs.Bytes.Refusal.{Refusal as RefusedBy, process, formula}
-use Rattle.layouts.specs.declared.answer.Refusal.{Refusal}
-use Rattle.layouts.specs.declared.answer.Answer.{Answer}
-use Rattle.layouts.specs.declared.answer.Answer.the-variants.{Ends, Refused}
-use Rattle.layouts.specs.Answer.{refusalNumber}
+use Rattle.numbers.specs.declared.answer.Refusal.{Refusal}
+use Rattle.numbers.specs.declared.answer.Answer.{Answer}
+use Rattle.numbers.specs.declared.answer.Answer.the-variants.{Ends, Refused}
+use Rattle.numbers.specs.Answer.{refusalNumber}
 
 -- It is an end exactly when the slice is the encoding of something well-formed, and then it is the slice's end. It is a refusal
 -- exactly when the rules refuse the slice for that reason at that place.

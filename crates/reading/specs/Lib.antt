@@ -1,3 +1,3 @@
 pub mod Exact
-pub mod Shape
+pub mod Sorts
 pub mod Theorems

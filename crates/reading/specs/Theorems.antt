@@ -5,8 +5,8 @@ use mathlib.Core.List.{List}
 use Prim.Native.Nat.{ℕ}
 use Rattle.meaning.specs.Bytes.WellFormed.{Bytes}
 use Rattle.meaning.specs.Bytes.Reading.{readModel, readFormula}
-use Rattle.layouts.specs.declared.answer.Answer.{Answer}
-use Rattle.layouts.specs.Answer.{answer, extent}
+use Rattle.numbers.specs.declared.answer.Answer.{Answer}
+use Rattle.numbers.specs.Answer.{answer, extent}
 use Rattle.reading.specs.Exact.{ModelAnswer, FormulaAnswer}
 
 -- An answer that says of a slice what the reader of `meaning` says is the one that the rules ask for.

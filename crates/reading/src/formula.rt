@@ -1,16 +1,16 @@
 // Formulas ("Bytes", the formula kinds; 2 to 7).
-use crate::term;
-use layouts::answer::Answer;
-use layouts::answer::Refusal;
 use layouts::layout;
 use layouts::layout::Layout;
-use layouts::number;
-use layouts::number::Bounded;
+use numbers::answer::Answer;
+use numbers::answer::Refusal;
+use numbers::number;
+use numbers::number::Bounded;
+use term_reading::term;
 ghost use mathlib.Core.Path.{_≡_};
 ghost use Prim.Native.Nat.{_+_, _≤_};
 ghost use Rattle.meaning.specs.Bytes.Reading.{formula};
-ghost use Rattle.layouts.specs.Answer.{answer, bounded, extent};
-ghost use Rattle.reading.specs.Shape.{formulaRoom, formulaHead};
+ghost use Rattle.numbers.specs.Answer.{answer, bounded, extent};
+ghost use Rattle.reading.specs.Sorts.{formulaRoom, formulaHead};
 
 // Whether one more step formula may stand on the path, if the kind is one.
 fn room(steps: usize, kind: Layout) -> bool

@@ -2,15 +2,14 @@
 // ("Bytes"; "Turned back for the input").
 mod formula;
 mod process;
-mod term;
 
-use layouts::answer::Answer;
-use layouts::answer::Refusal;
+use numbers::answer::Answer;
+use numbers::answer::Refusal;
 ghost use mathlib.Core.Path.{_≡_};
 ghost use Rattle.meaning.specs.Bytes.Reading.{readModel, readFormula};
-ghost use Rattle.layouts.specs.Answer.{answer, extent};
+ghost use Rattle.numbers.specs.Answer.{answer, extent};
 ghost use Rattle.reading.specs.Exact.{ModelAnswer, FormulaAnswer};
-ghost use Rattle.reading.specs.Shape.{toTheEnd};
+ghost use Rattle.reading.specs.Sorts.{toTheEnd};
 
 // The most bytes of a slice; the most process nodes, formula nodes and step formulas on one path.
 const BYTES: usize = 4096;

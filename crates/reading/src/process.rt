@@ -1,16 +1,16 @@
 // Processes ("Bytes", the process kinds; 2 to 7).
-use crate::term;
-use layouts::answer::Answer;
-use layouts::answer::Refusal;
 use layouts::layout;
 use layouts::layout::Layout;
-use layouts::number;
-use layouts::number::Bounded;
+use numbers::answer::Answer;
+use numbers::answer::Refusal;
+use numbers::number;
+use numbers::number::Bounded;
+use term_reading::term;
 ghost use mathlib.Core.Path.{_≡_};
 ghost use Prim.Native.Nat.{_+_};
 ghost use Rattle.meaning.specs.Bytes.Reading.{process};
-ghost use Rattle.layouts.specs.Answer.{answer, bounded, extent};
-ghost use Rattle.reading.specs.Shape.{processRoom, processHead};
+ghost use Rattle.numbers.specs.Answer.{answer, bounded, extent};
+ghost use Rattle.reading.specs.Sorts.{processRoom, processHead};
 
 // The most variables in scope.
 const VARIABLES: usize = 12;

@@ -5,10 +5,10 @@
 // copied. A byte is two digits, 0 to 9 or A to F. `[07 00]12 ` is what stands in the brackets twelve times; the number has at most
 // four digits and ends with a blank or with the line. Brackets do not nest, and other characters are passed over. The table may
 // have 65,536 bytes.
-use layouts::answer;
-use layouts::answer::Answer;
 use libc::STDIN_FILENO;
 use libc::STDOUT_FILENO;
+use numbers::answer;
+use numbers::answer::Answer;
 ghost use Prim.Native.Nat.{_<_, _≤_};
 ghost use lib.ListN.{length};
 

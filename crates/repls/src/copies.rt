@@ -12,7 +12,7 @@ ghost use mathlib.Core.Path.{_≡_};
 ghost use mathlib.Core.Bool.{Bool};
 ghost use Prim.Native.Nat.{_≤_, _<_};
 ghost use lib.ListN.{length};
-ghost use Rattle.messages.specs.Buffer.{Within};
+ghost use Rattle.nodes.specs.Buffer.{Within};
 ghost use Rattle.states.specs.Progress.{Extends};
 ghost use Rattle.repls.specs.Copies.{Decided, within, judging, seeking, target, seekingIn, passes, finding, taken, builder, rebuilt, buildingIn};
 ghost use Rattle.repls.specs.Copies.{copiesAt, Begins, Finishes};

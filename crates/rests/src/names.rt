@@ -9,7 +9,7 @@ use ways::count::Counted;
 ghost use mathlib.Core.Path.{_≡_};
 ghost use Prim.Native.Nat.{_≤_};
 ghost use lib.ListN.{length};
-ghost use Rattle.messages.specs.Buffer.{Within};
+ghost use Rattle.nodes.specs.Buffer.{Within};
 ghost use Rattle.rests.specs.Rests.{onlyOf, thenOf, stepCopies, CountsActor, CountsTaker, SettlesSilent, Settles};
 
 // The private names at which the rest of a silent step's taker is settled, and the next one after all rests; or a rest meets a limit.

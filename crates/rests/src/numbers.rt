@@ -8,7 +8,7 @@ use ways::reach;
 use ways::reach::Reached;
 ghost use Prim.Native.Nat.{_+_, _≤_};
 ghost use lib.ListN.{length};
-ghost use Rattle.messages.specs.Buffer.{Within};
+ghost use Rattle.nodes.specs.Buffer.{Within};
 ghost use Rattle.rests.specs.Numbers.{Comes, Enters, CountsBehind, CountsCopy, Counts, CountsIn};
 
 // The most process nodes on one path.

@@ -9,7 +9,7 @@ use Rattle.meaning.specs.Bytes.Standing.{Stands}
 use Rattle.meaning.specs.Places.{Every}
 use Rattle.meaning.specs.Steps.State.{Bound, Thread, act, repl}
 use Rattle.meaning.specs.Judging.Limits.{boundNodes}
-use Rattle.messages.specs.Encoding.{encodeNode}
+use Rattle.nodes.specs.Encoding.{encodeNode}
 use Rattle.terms.specs.Bound.{encodeBound}
 use Rattle.states.specs.Place.{ProcessAt}
 

@@ -7,7 +7,7 @@ use lib.ListN.{length}
 use Rattle.meaning.specs.Messages.Term.{Message}
 use Rattle.meaning.specs.Bytes.Standing.{Stands}
 use Rattle.meaning.specs.Places.{Every}
-use Rattle.messages.specs.Encoding.{encodeMessage}
+use Rattle.nodes.specs.Encoding.{encodeMessage}
 use Rattle.states.specs.Record.{encodeRecords, Standing}
 use Rattle.states.specs.Course.{Going, Course, going, over-limit, found}
 use Rattle.states.specs.declared.progress.Progress.{Progress}

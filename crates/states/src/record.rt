@@ -1,9 +1,9 @@
 // The record of a thread: where its process stands in the model, how many bytes its bound messages take, and these messages ("Steps").
-use messages::node;
-use messages::run;
+use nodes::node;
+use nodes::run;
 ghost use Prim.Native.Nat.{_+_, _*_, _≤_, _<_};
 ghost use lib.ListN.{length};
-ghost use Rattle.messages.specs.Buffer.{Within};
+ghost use Rattle.nodes.specs.Buffer.{Within};
 ghost use Rattle.states.specs.Record.{NodesOf, Written, HeadStands};
 
 // The nodes of the bound messages that the slice is.

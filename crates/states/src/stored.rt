@@ -4,11 +4,11 @@ use crate::progress::Progress;
 use crate::record;
 use crate::state;
 use crate::state::Grown;
-use messages::node;
-use messages::run;
+use nodes::node;
+use nodes::run;
 ghost use Prim.Native.Nat.{_+_, _≤_};
 ghost use lib.ListN.{length};
-ghost use Rattle.messages.specs.Buffer.{Within};
+ghost use Rattle.nodes.specs.Buffer.{Within};
 ghost use Rattle.states.specs.Progress.{Extends};
 ghost use Rattle.states.specs.Stored.{Fetched, Loads, Keeps};
 

@@ -1,7 +1,7 @@
 // The labels of a case: what they are, how many bytes they take, where a level of them ends, and the messages of their recipes.
 use crate::text;
-use messages::run;
 use moves::step::Label;
+use nodes::run;
 use states::state::State;
 use terms::work;
 use terms::work::Worked;

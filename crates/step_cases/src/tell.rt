@@ -1,6 +1,6 @@
 // What is written of a label and of a state.
 use libc::STDOUT_FILENO;
-use messages::node;
+use nodes::node;
 use states::state::State;
 
 // So many blanks.

@@ -1,5 +1,5 @@
 // The text of a line: where a character stands, and the bytes that digits spell; and parts of slices.
-use messages::node;
+use nodes::node;
 ghost use Prim.Native.Nat.{_*_, _≤_};
 ghost use lib.ListN.{length};
 

@@ -7,7 +7,7 @@ use lib.ListN.{length}
 use Rattle.meaning.specs.Messages.Term.{leaf, public, Message}
 use Rattle.meaning.specs.Bytes.Standing.{Stands}
 use Rattle.meaning.specs.Steps.State.{worked}
-use Rattle.messages.specs.Encoding.{encodeMessage}
+use Rattle.nodes.specs.Encoding.{encodeMessage}
 use Rattle.states.specs.Record.{Placed, encodeRecords}
 use Rattle.threads.specs.declared.task.Quest.{Quest}
 use Rattle.positions.specs.Located.{Acting}

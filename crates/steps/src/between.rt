@@ -10,7 +10,7 @@ use threads::task::Quest;
 ghost use mathlib.Core.Path.{_≡_};
 ghost use Prim.Native.Nat.{_≤_};
 ghost use lib.ListN.{length};
-ghost use Rattle.messages.specs.Buffer.{Within};
+ghost use Rattle.nodes.specs.Buffer.{Within};
 ghost use Rattle.steps.specs.Between.{Follows, Sends, Takes, Pairs, Onward, Betweens};
 
 // Whether a sender that was found is one that was sought: at a mark above x in the record at the position at, or in a later one.

@@ -1,15 +1,15 @@
 // The steps of a state one after the other, for each label ("Steps").
 use crate::silent;
+use labelled_steps::labelled;
 use moves::step::Actor;
 use moves::step::Label;
 use moves::step::Next;
 use moves::step::Step;
-use offers::labelled;
 use states::state::State;
 ghost use mathlib.Core.Path.{_≡_};
 ghost use Prim.Native.Nat.{_≤_};
 ghost use lib.ListN.{length};
-ghost use Rattle.messages.specs.Buffer.{Within};
+ghost use Rattle.nodes.specs.Buffer.{Within};
 ghost use Rattle.moves.specs.Behind.{modeBefore, before};
 ghost use Rattle.steps.specs.Next.{Nexts};
 

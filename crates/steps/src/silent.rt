@@ -7,7 +7,7 @@ use states::state::State;
 ghost use mathlib.Core.Path.{_≡_};
 ghost use Prim.Native.Nat.{_≤_};
 ghost use lib.ListN.{length};
-ghost use Rattle.messages.specs.Buffer.{Within};
+ghost use Rattle.nodes.specs.Buffer.{Within};
 ghost use Rattle.steps.specs.Next.{placeOf, NextBetween, NextJoint, NextSilent};
 
 // Twice the most repl threads that the copies of one thread have, and one more.

@@ -1,5 +1,4 @@
 -- The laws by which the functions meet their contracts. Assumes nothing.
-pub mod Aliases
 pub mod Rebuild
 pub mod Rebuilt
 pub mod RebuiltMarks

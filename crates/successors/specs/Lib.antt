@@ -1,4 +1,3 @@
-pub mod Aliases
 pub mod Lead
 pub mod Rebuild
 pub mod Tasks

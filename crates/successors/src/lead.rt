@@ -1,7 +1,7 @@
 // The state that a step leads to, formed behind the one that it leaves ("Steps"; "Judging and its count").
-use crate::aliases;
 use crate::rebuild;
 use crate::tasks;
+use alias_lists::aliases;
 use forms::form;
 use forms::form::Formed;
 use moves::step::Step;
@@ -10,7 +10,7 @@ use rests::names::Rests;
 use states::state::State;
 ghost use Prim.Native.Nat.{_≤_};
 ghost use lib.ListN.{length};
-ghost use Rattle.messages.specs.Buffer.{Within};
+ghost use Rattle.nodes.specs.Buffer.{Within};
 ghost use Rattle.successors.specs.Lead.{LeadsAt, Leads};
 
 // The state with the private names of its rests.

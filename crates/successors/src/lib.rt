@@ -1,5 +1,4 @@
 // The state that a step leads to, formed in the lent work bytes ("Steps"; "Judging and its count").
-mod aliases;
 pub mod lead;
 mod rebuild;
 mod tasks;

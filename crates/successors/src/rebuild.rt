@@ -1,12 +1,12 @@
 // The threads of a state, written into the next one ("Steps"): those that act as their tasks leave them, the others as they are.
 use forms::visit;
-use messages::node;
+use nodes::node;
 use states::progress::Progress;
 use states::stored;
 use threads::task::Task;
 ghost use Prim.Native.Nat.{_+_, _≤_};
 ghost use lib.ListN.{length};
-ghost use Rattle.messages.specs.Buffer.{Within};
+ghost use Rattle.nodes.specs.Buffer.{Within};
 ghost use Rattle.states.specs.Progress.{Extends};
 ghost use Rattle.successors.specs.Rebuild.{Renews, Rebuilds};
 

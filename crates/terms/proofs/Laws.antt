@@ -7,5 +7,3 @@ pub mod Term
 pub mod Work
 pub mod Inner
 pub mod Room
-pub mod Bind
-pub mod Decide

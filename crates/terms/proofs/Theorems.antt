@@ -10,9 +10,9 @@ use Rattle.meaning.specs.Steps.State.{worked}
 use Rattle.meaning.specs.Judging.Limits.{boundNodes}
 use Rattle.meaning.proofs.Every.{every-joined}
 use Rattle.meaning.proofs.Bytes.Reading.Place.{whole-stands}
-use Rattle.messages.specs.Encoding.{encodeNode, encodeMessage}
-use Rattle.messages.proofs.Laws.Encoding.{length-encode, runs-end}
-use Rattle.messages.proofs.Laws.Alike.{same-runs}
+use Rattle.nodes.specs.Encoding.{encodeNode, encodeMessage}
+use Rattle.nodes.proofs.Laws.Encoding.{length-encode, runs-end}
+use Rattle.nodes.proofs.Laws.Alike.{same-runs}
 use Rattle.terms.proofs.Laws.Work.{still-bound}
 use Rattle.terms.specs.Bound.{encodeBound}
 use Rattle.terms.specs.Theorems.{BoundLength, WorkedTested, BoundInjective, TermsStand, BoundsStand, BoundKept, BoundFurther}

@@ -8,7 +8,7 @@ use Rattle.meaning.specs.Messages.Equation.{Normal}
 use Rattle.meaning.specs.Bytes.Standing.{Stands}
 use Rattle.meaning.specs.Places.{Every}
 use Rattle.meaning.specs.Steps.State.{Bound, _▸_}
-use Rattle.messages.specs.Encoding.{encodeNode, encodeMessage}
+use Rattle.nodes.specs.Encoding.{encodeNode, encodeMessage}
 
 -- Before each message stands the number of its nodes, so the next one is found without a walk.
 abbrev pub encodeEntry : Message → List ℕ

@@ -11,7 +11,7 @@ use Rattle.meaning.specs.Bytes.Encoding.{encodeNumber}
 use Rattle.meaning.specs.Bytes.Standing.{Stands}
 use Rattle.meaning.specs.Steps.State.{Bound, worked}
 use Rattle.meaning.specs.Judging.Limits.{over}
-use Rattle.messages.specs.Encoding.{encodeNode, encodeMessage}
+use Rattle.nodes.specs.Encoding.{encodeNode, encodeMessage}
 use Rattle.messages.specs.Normal.{PartsNormal, firstEnd}
 use Rattle.terms.specs.Bound.{BoundAt}
 use Rattle.terms.specs.Work.{TermAt, answerOf, endOf, WorkedTo}

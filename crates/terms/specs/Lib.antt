@@ -1,5 +1,4 @@
 pub mod Bound
 pub mod Work
 pub mod Inner
-pub mod Decide
 pub mod Theorems

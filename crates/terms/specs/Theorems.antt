@@ -13,9 +13,9 @@ use Rattle.meaning.specs.Bytes.Scope.{TermScoped}
 use Rattle.meaning.specs.Places.{Every}
 use Rattle.meaning.specs.Steps.State.{Bound, _▸_, written, worked}
 use Rattle.meaning.specs.Judging.Limits.{boundNodes}
-use Rattle.messages.specs.Encoding.{encodeMessage}
-use Rattle.messages.specs.Buffer.{Within}
-use Rattle.messages.specs.Run.{alike}
+use Rattle.nodes.specs.Encoding.{encodeMessage}
+use Rattle.nodes.specs.Buffer.{Within}
+use Rattle.nodes.specs.Run.{alike}
 use Rattle.terms.specs.Bound.{encodeBound, BoundTo, BoundAt, Binds}
 use Rattle.terms.specs.Work.{TermAt}
 

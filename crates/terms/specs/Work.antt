@@ -12,7 +12,7 @@ use Rattle.meaning.specs.Bytes.Scope.{TermScoped}
 use Rattle.meaning.specs.Bytes.Standing.{Stands}
 use Rattle.meaning.specs.Steps.State.{Bound, written, worked}
 use Rattle.meaning.specs.Judging.Limits.{over}
-use Rattle.messages.specs.Encoding.{encodeMessage}
+use Rattle.nodes.specs.Encoding.{encodeMessage}
 use Rattle.terms.specs.Bound.{BoundAt, Binds}
 use Rattle.terms.specs.declared.work.Worked.{Worked}
 use Rattle.terms.specs.declared.work.Worked.the-variants.{Done, TooLarge}

@@ -1,6 +1,6 @@
 // Bound messages: those of the variables or the aliases in scope, one after the other, each behind the number of its nodes ("Steps").
-use messages::node;
-use messages::run::Part;
+use nodes::node;
+use nodes::run::Part;
 ghost use Prim.Native.Nat.{_+_, _≤_};
 ghost use lib.ListN.{length};
 ghost use Rattle.terms.specs.Bound.{Begins, Found};

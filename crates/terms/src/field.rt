@@ -1,6 +1,6 @@
 // The number of a public name, a variable or an alias, read again ("Bytes").
-use layouts::number;
-use layouts::number::Numeral;
+use numbers::number;
+use numbers::number::Numeral;
 ghost use Prim.Native.Nat.{_<_};
 ghost use Rattle.terms.specs.Inner.{FieldAt};
 

@@ -4,12 +4,12 @@ use crate::field;
 use crate::field::Field;
 use crate::work;
 use crate::work::Worked;
-use messages::node;
-use messages::run;
-use messages::run::Part;
+use nodes::node;
+use nodes::run;
+use nodes::run::Part;
 ghost use Prim.Native.Nat.{_+_, _≤_};
 ghost use lib.ListN.{length};
-ghost use Rattle.messages.specs.Buffer.{Within};
+ghost use Rattle.nodes.specs.Buffer.{Within};
 ghost use Rattle.terms.specs.Work.{Reaches};
 ghost use Rattle.terms.specs.Inner.{NameWorked, VariableWorked};
 

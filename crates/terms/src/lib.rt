@@ -1,7 +1,5 @@
-// Terms and recipes worked under bound messages, and the binding of messages ("Messages"; "Steps").
-pub mod bind;
+// Terms and recipes worked under bound messages ("Messages"; "Steps").
 mod bound;
-pub mod decide;
 mod field;
 mod leaf;
 pub mod work;

@@ -1,10 +1,10 @@
 // Terms and recipes worked under bound messages, from the leaves up, in place ("Messages"; "Judging and its count", 255 nodes).
 use crate::leaf;
-use messages::node;
 use messages::normal;
+use nodes::node;
 ghost use Prim.Native.Nat.{_+_, _*_, _≤_, _<_};
 ghost use lib.ListN.{length};
-ghost use Rattle.messages.specs.Buffer.{Within};
+ghost use Rattle.nodes.specs.Buffer.{Within};
 ghost use Rattle.terms.specs.Work.{Works, Reaches};
 ghost use Rattle.terms.specs.Inner.{Reduced, NodeWorked, FirstWorked, Joins};
 

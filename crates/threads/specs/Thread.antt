@@ -11,7 +11,7 @@ use Rattle.meaning.specs.Bytes.Encoding.{encodeProcess}
 use Rattle.meaning.specs.Bytes.Standing.{Stands}
 use Rattle.meaning.specs.Steps.State.{Bound, worked, act}
 use Rattle.meaning.specs.Judging.Limits.{over}
-use Rattle.messages.specs.Encoding.{encodeMessage}
+use Rattle.nodes.specs.Encoding.{encodeMessage}
 use Rattle.layouts.specs.Ends.{ProcessEnd}
 use Rattle.terms.specs.Bound.{BoundTo}
 use Rattle.terms.specs.Work.{TermAt}

@@ -1,6 +1,6 @@
 // Positions in a process: the branch of an if, what follows a thread, whether a mark is in it ("Steps").
 use layouts::ends;
-use messages::node;
+use nodes::node;
 ghost use Prim.Native.Nat.{_<_};
 ghost use lib.ListN.{length};
 ghost use Rattle.threads.specs.Thread.{Chosen, Held, Rests};

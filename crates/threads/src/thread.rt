@@ -1,8 +1,8 @@
 // What is done at a thread that acts by itself, for the tasks that do not follow it further ("Steps"; "Judging and its count").
 use crate::task::Quest;
 use layouts::ends;
-use messages::node;
-use messages::run;
+use nodes::node;
+use nodes::run;
 use states::progress;
 use states::progress::Progress;
 use states::state::State;
@@ -12,7 +12,7 @@ use terms::work::Worked;
 ghost use mathlib.Core.Path.{_≡_};
 ghost use Prim.Native.Nat.{_+_, _≤_, _<_};
 ghost use lib.ListN.{length};
-ghost use Rattle.messages.specs.Buffer.{Within};
+ghost use Rattle.nodes.specs.Buffer.{Within};
 ghost use Rattle.states.specs.Progress.{Extends, SameState};
 ghost use Rattle.threads.specs.Thread.{Judges, Offers, Settles, Agrees, Sends, Hands, Channels, Seeks};
 ghost use Rattle.threads.specs.Machine.{eligible};

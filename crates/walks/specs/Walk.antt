@@ -12,8 +12,8 @@ use Rattle.meaning.specs.Bytes.Nesting.{variables}
 use Rattle.meaning.specs.Bytes.Standing.{Stands}
 use Rattle.meaning.specs.Places.{Every}
 use Rattle.meaning.specs.Steps.State.{Bound, _▸_}
-use Rattle.messages.specs.Buffer.{Within}
-use Rattle.messages.specs.Encoding.{encodeMessage}
+use Rattle.nodes.specs.Buffer.{Within}
+use Rattle.nodes.specs.Encoding.{encodeMessage}
 use Rattle.terms.specs.Bound.{BoundTo}
 use Rattle.states.specs.Place.{ProcessAt, bodyAt, restAt}
 use Rattle.states.specs.Progress.{Extends}

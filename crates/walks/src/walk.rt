@@ -1,16 +1,16 @@
 // The walk over a process: it settles from left to right, and does what the task says at each thread that is left ("Steps"). Copies are walked
 // over where they stand in the model, and never stored. Nothing is validated again: where no process stands, the answer is open.
+use binds::bind;
+use binds::decide;
+use binds::decide::Compared;
 use layouts::ends;
-use messages::node;
+use nodes::node;
 use repls::copies;
 use repls::copies::Copies;
 use repls::copies::Opening;
 use states::progress;
 use states::progress::Progress;
 use states::written;
-use terms::bind;
-use terms::decide;
-use terms::decide::Compared;
 use terms::work::Worked;
 use threads::place;
 use threads::task;
@@ -19,7 +19,7 @@ use threads::task::Task;
 use threads::thread;
 ghost use Prim.Native.Nat.{_+_, _≤_, _<_};
 ghost use lib.ListN.{length};
-ghost use Rattle.messages.specs.Buffer.{Within};
+ghost use Rattle.nodes.specs.Buffer.{Within};
 ghost use Rattle.walks.specs.Walk.{Leaves, Walks, NodeWalks, WalksIf, AtPrefix, ActsAs, Follows, Receives, Performs, OpensBoth, OpensBy, Opens, Returns};
 ghost use Rattle.states.specs.Progress.{Extends};
 

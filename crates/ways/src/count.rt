@@ -1,14 +1,14 @@
 // The private names that a process takes, and those of what follows an offer ("Steps"). Nothing is validated again: where no process stands,
 // the answer is open.
-use messages::node;
+use binds::bind;
+use nodes::node;
 use states::progress::Progress;
-use terms::bind;
 use threads::place;
 use threads::task::Task;
 use walks::walk;
 ghost use Prim.Native.Nat.{_≤_, _<_};
 ghost use lib.ListN.{length};
-ghost use Rattle.messages.specs.Buffer.{Within};
+ghost use Rattle.nodes.specs.Buffer.{Within};
 ghost use Rattle.ways.specs.Reach.{Restarts, Takes, CountsAfter, CountsRest};
 
 // The kind of an output.

@@ -1,16 +1,16 @@
 // The way from a thread's process down to the process at a mark, under the messages that are bound there ("Steps"). A mark is a position
 // and one more. Nothing is validated again: where no process stands, or a limit is met on the way, the answer is open.
 use crate::count;
+use binds::bind;
 use layouts::ends;
-use messages::node;
+use nodes::node;
 use states::progress::Progress;
-use terms::bind;
 use terms::work::Worked;
 use threads::place;
 ghost use mathlib.Core.Path.{_≡_};
 ghost use Prim.Native.Nat.{_+_, _≤_, _<_};
 ghost use lib.ListN.{length};
-ghost use Rattle.messages.specs.Buffer.{Within};
+ghost use Rattle.nodes.specs.Buffer.{Within};
 ghost use Rattle.ways.specs.Reach.{Reaches, Passes, PassesIf, OtherPasses, CopyPasses};
 
 // The kinds of processes.

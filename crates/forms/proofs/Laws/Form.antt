@@ -5,7 +5,7 @@ use mathlib.Core.List.{List, [], _∷_, _++_}
 use Rattle.meaning.specs.Messages.Term.{leaf, public}
 use Rattle.meaning.specs.Messages.Normal.{normal}
 use Rattle.meaning.proofs.Messages.{normalForms}
-use Rattle.messages.specs.Encoding.{encodeNode, encodeMessage}
+use Rattle.nodes.specs.Encoding.{encodeNode, encodeMessage}
 use Prim.Native.Nat.{ℕ, _+_, _≤_, _<_}
 use native.Mathlib.Omega.{arith}
 use borrow.Author.Tests.{ltb-true, ltb-false}
@@ -21,7 +21,7 @@ use Rattle.meaning.specs.Judging.Limits.{boundNodes, threadNodes, overSettling,
 use Rattle.meaning.specs.Judging.Visits.{startArrival}
 use Rattle.meaning.proofs.Bytes.Reading.Place.{whole-stands}
 use Rattle.meaning.proofs.Test.{neither}
-use Rattle.messages.specs.Buffer.{Within}
+use Rattle.nodes.specs.Buffer.{Within}
 use Rattle.terms.specs.Bound.{encodeBound}
 use Rattle.states.specs.Place.{ProcessAt}
 use Rattle.states.specs.Record.{encodeRecords}

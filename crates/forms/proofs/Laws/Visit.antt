@@ -10,7 +10,7 @@ use Rattle.meaning.specs.Bytes.Encoding.{encodeTerm, encodeProcess}
 use Rattle.meaning.specs.Bytes.Standing.{Stands}
 use Rattle.meaning.specs.Places.{none, _also_}
 use Rattle.meaning.proofs.Every.{every-map}
-use Rattle.messages.specs.Buffer.{Within}
+use Rattle.nodes.specs.Buffer.{Within}
 use Rattle.terms.specs.Bound.{encodeBound}
 use Rattle.states.specs.Place.{ProcessAt}
 use Rattle.states.specs.Record.{Placed, processOf, boundOf, encodeRecords}

@@ -9,7 +9,7 @@ use Rattle.meaning.specs.Messages.Normal.{normal}
 use Rattle.meaning.specs.Places.{none, _also_}
 use Rattle.meaning.specs.Steps.State.{names}
 use Rattle.meaning.proofs.Messages.{normalForms}
-use Rattle.messages.specs.Encoding.{encodeNode, encodeMessage}
+use Rattle.nodes.specs.Encoding.{encodeNode, encodeMessage}
 use Rattle.states.specs.Record.{Placed, processOf, boundOf}
 use Rattle.states.specs.Course.{Going, going, named}
 use Rattle.walks.specs.Walking.{go}

@@ -7,8 +7,8 @@ use native.Mathlib.Omega.{arith}
 use lib.Dec.{eqb}
 use borrow.Author.Tests.{ne-eqb}
 use lib.ListN.{length}
-use Rattle.messages.specs.Encoding.{numberAt}
-use Rattle.messages.specs.Buffer.{Within}
+use Rattle.nodes.specs.Encoding.{numberAt}
+use Rattle.nodes.specs.Buffer.{Within}
 use Rattle.states.specs.Record.{Placed, encodeRecord, encodeRecords}
 use Rattle.states.specs.declared.progress.Progress.{Progress}
 use Rattle.positions.specs.Sought.{Opened}
@@ -16,7 +16,7 @@ use Rattle.moves.specs.Spot.{Spot, spotsFrom, recordAt, copiesOf}
 use Rattle.moves.specs.Threads.{Threads}
 use Rattle.moves.specs.Moves.{Move}
 use Rattle.moves.specs.CopyOffers.{ThreadAt, pairsFrom, senders, moved}
-use Rattle.meetings.specs.Meet.{CopyOf, Meets}
+use Rattle.pairs.specs.Meet.{CopyOf, Meets}
 use Rattle.moves.specs.Step.{Shown}
 use Rattle.moves.specs.CopyMoves.{groupMoves, copyMoves, laterSpots, copyMovesFrom, Roomy}
 use Rattle.meetings.specs.Joint.{Joins, ShowsCopy, Finds, Passes}
@@ -25,7 +25,7 @@ use Rattle.moves.specs.declared.step.Next.the-variants as next
 use Rattle.moves.specs.declared.step.Step.{Step}
 use Rattle.moves.proofs.Laws.Records.{records-further}
 use Rattle.meetings.proofs.Laws.ReplThreads.{few-groups}
-use Rattle.meetings.proofs.Laws.Shown.{found-or-none, shown-more, shown-next}
+use Rattle.pairs.proofs.Laws.Shown.{found-or-none, shown-more, shown-next}
 use Rattle.moves.proofs.Laws.Threads.{first-thread, threads-kept, no-threads, record-end}
 
 -- The steps of a thread and of those behind it, and of its repl threads one by one.

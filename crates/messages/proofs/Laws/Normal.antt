@@ -12,8 +12,8 @@ use Rattle.meaning.specs.Messages.Normal.{same, project, crypt, build, normal}
 use Rattle.meaning.proofs.Messages.{normal-of-normal}
 use Rattle.meaning.proofs.Messages.Same.{binaryKind-injective}
 use Rattle.meaning.proofs.Test.{is-false}
-use Rattle.messages.specs.Encoding.{partsOf}
-use Rattle.messages.proofs.Laws.Encoding.{headNumber, head-parts}
+use Rattle.nodes.specs.Encoding.{partsOf}
+use Rattle.nodes.proofs.Laws.Encoding.{headNumber, head-parts}
 
 -- What holds of each node of a kind holds of a message whose first node has the kind's number.
 pub by-head : (b : Binary) (P : Message → Type 0) → ((m n : Message) → P (binary b m n))

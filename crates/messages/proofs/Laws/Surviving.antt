@@ -13,14 +13,14 @@ use Rattle.meaning.specs.Messages.Equation.{part as taken, Normal}
 use Rattle.meaning.specs.Messages.Normal.{same, project, build, normal}
 use Rattle.meaning.specs.Bytes.Standing.{Stands}
 use Rattle.meaning.proofs.Bytes.Reading.Place.{whole-stands}
-use Rattle.messages.specs.Encoding.{encodeMessage, numberAt, partsOf}
-use Rattle.messages.specs.Buffer.{Within}
-use Rattle.messages.specs.Run.{SizeOf, alike}
+use Rattle.nodes.specs.Encoding.{encodeMessage, numberAt, partsOf}
+use Rattle.nodes.specs.Buffer.{Within}
+use Rattle.nodes.specs.Run.{SizeOf, alike}
 use Rattle.messages.specs.Normal.{PartsNormal, firstEnd, Projects, Undoes, Survives, Normalised}
-use Rattle.messages.proofs.Laws.Encoding.{headNumber, inner, head-parts}
-use Rattle.messages.proofs.Laws.Alike.{same-runs}
-use Rattle.messages.proofs.Laws.Buffer.{lent, part, copy-stands, copy-within, unchanged}
-use Rattle.messages.proofs.Laws.Walk.{head-number, one-part, two-parts, some-node}
+use Rattle.nodes.proofs.Laws.Encoding.{headNumber, inner, head-parts}
+use Rattle.nodes.proofs.Laws.Alike.{same-runs}
+use Rattle.nodes.proofs.Laws.Buffer.{lent, part, copy-stands, copy-within, unchanged}
+use Rattle.nodes.proofs.Laws.Walk.{head-number, one-part, two-parts, some-node}
 use Rattle.messages.proofs.Laws.Normal.{by-head, project-other, crypt-other, crypt-undoes, normal-proj, normal-binary}
 
 module _ {m : List ℕ} where

@@ -15,8 +15,8 @@ use Rattle.meaning.specs.Judging.Limits.{over, overWhole, overPrefix}
 use Rattle.meaning.proofs.Messages.{normalForms}
 use Rattle.meaning.proofs.Test.{neither}
 use Rattle.meaning.proofs.Every.{every-map}
-use Rattle.messages.specs.Encoding.{encodeMessage}
-use Rattle.messages.proofs.Theorems.{runLength}
+use Rattle.nodes.specs.Encoding.{encodeMessage}
+use Rattle.nodes.proofs.Theorems.{runLength}
 use Rattle.forms.specs.Visit.{BoundSmall}
 use Rattle.positions.specs.Located.{Acting, acting, prefixed}
 use Rattle.positions.specs.Joint.{messageOf}

@@ -7,7 +7,7 @@ use lib.ListN.{length, length-append, length-map}
 use Rattle.meaning.specs.Places.{Every, none, _also_}
 use Rattle.meaning.specs.Steps.State.{State}
 use Rattle.meaning.specs.Judging.Limits.{boundNodes, threadNodes}
-use Rattle.messages.specs.Encoding.{encodeNode}
+use Rattle.nodes.specs.Encoding.{encodeNode}
 use Rattle.terms.proofs.Theorems.{boundLength}
 use Rattle.states.specs.Record.{Placed, boundOf, encodeRecord, encodeRecords, Standing}
 use Rattle.walks.specs.Settled.{threadsOf}

@@ -4,7 +4,7 @@ use mathlib.Core.List.{List, [], _∷_, _++_}
 use Prim.Native.Nat.{ℕ, _+_, _<_, _≤_}
 use native.Mathlib.Omega.{arith}
 use lib.ListN.{length, length-append}
-use Rattle.messages.specs.Encoding.{encodeNode}
+use Rattle.nodes.specs.Encoding.{encodeNode}
 use Rattle.terms.specs.Bound.{encodeBound}
 use Rattle.states.specs.Record.{Placed, boundOf, encodeRecord, encodeRecords}
 use Rattle.moves.specs.Spot.{Spot, recordAt}

@@ -7,9 +7,9 @@ use lib.ListN.{length, drop, length-append, length-drop}
 use Rattle.meaning.specs.Bytes.Standing.{Stands}
 use Rattle.meaning.specs.Places.{Every, _also_}
 use Rattle.meaning.proofs.Bytes.Reading.Place.{parts}
-use Rattle.messages.specs.Encoding.{numberAt}
-use Rattle.messages.specs.Buffer.{Within}
-use Rattle.messages.proofs.Laws.Buffer.{kept}
+use Rattle.nodes.specs.Encoding.{numberAt}
+use Rattle.nodes.specs.Buffer.{Within}
+use Rattle.nodes.proofs.Laws.Buffer.{kept}
 use Rattle.states.specs.Record.{Placed, processOf, encodeRecord, encodeRecords, Standing}
 use Rattle.states.proofs.Laws.Stored.{record-parts}
 use Rattle.positions.proofs.Laws.Located.{size, some-bytes}

@@ -7,11 +7,11 @@ use lib.ListN.{length, take, drop}
 use Rattle.meaning.specs.Messages.Term.{Message}
 use Rattle.meaning.specs.Bytes.Standing.{Stands}
 use Rattle.meaning.proofs.Bytes.Reading.Place.{parts}
-use Rattle.messages.specs.Encoding.{encodeMessage}
-use Rattle.messages.specs.Run.{SizeOf}
-use Rattle.messages.proofs.Theorems.{runLength}
-use Rattle.messages.proofs.Laws.Buffer.{lent, part}
-use Rattle.messages.proofs.Laws.Walk.{some-node}
+use Rattle.nodes.specs.Encoding.{encodeMessage}
+use Rattle.nodes.specs.Run.{SizeOf}
+use Rattle.nodes.proofs.Theorems.{runLength}
+use Rattle.nodes.proofs.Laws.Buffer.{lent, part}
+use Rattle.nodes.proofs.Laws.Walk.{some-node}
 use Rattle.states.specs.Stored.{Fetched}
 use Rattle.states.specs.Shown.{encodeMessages}
 use Rattle.offers.specs.Hand.{Copies, Hands}

@@ -13,8 +13,8 @@ use Rattle.meaning.specs.Steps.State.{Thread, act, repl, names, settle}
 use Rattle.meaning.specs.Logic.Truth.{anyOf}
 use Rattle.meaning.specs.Judging.Limits.{overSettling, overOffers}
 use Rattle.meaning.proofs.Judging.Alike.{copiesAlike}
-use Rattle.messages.specs.Encoding.{numberAt}
-use Rattle.messages.specs.Buffer.{Within}
+use Rattle.nodes.specs.Encoding.{numberAt}
+use Rattle.nodes.specs.Buffer.{Within}
 use Rattle.states.specs.Record.{Placed, processOf, boundOf, encodeRecord}
 use Rattle.states.specs.Course.{Going, going, found}
 use Rattle.walks.specs.Walking.{go}

@@ -10,13 +10,14 @@ use mir.Facts.{or-yes}
 use mir.Syntax.{w64}
 use mir.Val.{Fits}
 use Rattle.meaning.specs.Bytes.Reading.{process, formula}
-use Rattle.layouts.specs.Answer.{Extent, bounded, extent}
+use Rattle.numbers.specs.Answer.{Extent, bounded, extent}
 use Rattle.layouts.specs.Layout.{binds, step, layoutOf, processLayouts, formulaLayouts}
-use Rattle.reading.specs.Shape.{headOf, processRoom, processPart, formulaRoom, formulaPart}
+use Rattle.term_reading.specs.Shape.{headOf}
+use Rattle.reading.specs.Sorts.{processRoom, processPart, formulaRoom, formulaPart}
 use Rattle.layouts.specs.declared.layout.Layout.{Layout}
-use Rattle.layouts.specs.declared.number.Bounded.{Bounded}
-use Rattle.layouts.specs.declared.number.Bounded.the-variants.{Is}
-use Rattle.reading.proofs.Laws.Headed.{room-left}
+use Rattle.numbers.specs.declared.number.Bounded.{Bounded}
+use Rattle.numbers.specs.declared.number.Bounded.the-variants.{Is}
+use Rattle.term_reading.proofs.Laws.Headed.{room-left}
 use Rattle.layouts.proofs.Laws.Table.{one-variable, one-step, steps-add}
 
 -- Either a kind does not count, or there is room for what it counts.

@@ -9,11 +9,11 @@ use lib.ListN.{length}
 use Rattle.meaning.specs.Bytes.Number.{Read, found, refused, andThen, provided}
 use Rattle.meaning.specs.Bytes.Reading.{process, formula, whole, readModel, readFormula}
 use Rattle.meaning.proofs.Bytes.Reader.{below, above}
-use Rattle.layouts.specs.Answer.{Extent, refusalNumber, answer, extent}
-use Rattle.reading.specs.Shape.{toTheEnd}
-use Rattle.layouts.specs.declared.answer.Refusal.{Refusal}
-use Rattle.layouts.specs.declared.answer.Answer.{Answer}
-use Rattle.layouts.specs.declared.answer.Answer.the-variants.{Ends, Refused}
+use Rattle.numbers.specs.Answer.{Extent, refusalNumber, answer, extent}
+use Rattle.reading.specs.Sorts.{toTheEnd}
+use Rattle.numbers.specs.declared.answer.Refusal.{Refusal}
+use Rattle.numbers.specs.declared.answer.Answer.{Answer}
+use Rattle.numbers.specs.declared.answer.Answer.the-variants.{Ends, Refused}
 
 module _ (s : List ℕ) {a : Answer} where
   pub reaches : {end : ℕ} → a ≡ Ends end → length s ≤ end → found tt end ≡ toTheEnd s (answer a)

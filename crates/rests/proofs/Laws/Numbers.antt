@@ -19,8 +19,8 @@ use Rattle.meaning.specs.Judging.Limits.{overOffers}
 use Rattle.meaning.proofs.Every.{every-parts}
 use Rattle.meaning.proofs.Test.{neither}
 use Rattle.meaning.proofs.Judging.Alike.{copiesAlike}
-use Rattle.messages.specs.Buffer.{Within}
-use Rattle.messages.proofs.Laws.Buffer.{unchanged, wider}
+use Rattle.nodes.specs.Buffer.{Within}
+use Rattle.nodes.proofs.Laws.Buffer.{unchanged, wider}
 use Rattle.terms.specs.Bound.{encodeBound}
 use Rattle.states.specs.Place.{ProcessAt}
 use Rattle.states.specs.Record.{Placed, processOf, boundOf}

@@ -10,7 +10,7 @@ use Rattle.meaning.specs.Bytes.Standing.{Stands}
 use Rattle.meaning.specs.Steps.State.{Bound, _▸_, names, State}
 use Rattle.meaning.specs.Judging.Limits.{overSettling}
 use Rattle.meaning.proofs.Every.{every-split}
-use Rattle.messages.specs.Buffer.{Within}
+use Rattle.nodes.specs.Buffer.{Within}
 use Rattle.states.specs.declared.state.State as code
 use Rattle.walks.proofs.Laws.Course.{names-fit}
 use Rattle.positions.specs.Located.{Acting, prefixed}

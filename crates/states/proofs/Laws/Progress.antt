@@ -5,8 +5,8 @@ use mathlib.Core.List.{List}
 use Prim.Native.Nat.{ℕ, _+_, _≤_}
 use native.Mathlib.Omega.{arith}
 use lib.ListN.{length, drop-of-length-le}
-use Rattle.messages.specs.Buffer.{Within}
-use Rattle.messages.proofs.Laws.Buffer.{kept, one-after}
+use Rattle.nodes.specs.Buffer.{Within}
+use Rattle.nodes.proofs.Laws.Buffer.{kept, one-after}
 use Rattle.states.specs.Course.{Going, named}
 use Rattle.states.specs.Shown.{Shows}
 use Rattle.states.specs.Progress.{SameState, Extends, Stopped, Renamed, Hits}

@@ -13,8 +13,8 @@ use Rattle.meaning.specs.Steps.State.{Bound, Thread}
 use Rattle.meaning.specs.Judging.Limits.{boundNodes}
 use Rattle.meaning.proofs.Bytes.Reading.Place.{_⨾_}
 use Rattle.meaning.proofs.Every.{every-joined}
-use Rattle.messages.specs.Buffer.{Within}
-use Rattle.messages.proofs.Laws.Buffer.{kept, part, wider}
+use Rattle.nodes.specs.Buffer.{Within}
+use Rattle.nodes.proofs.Laws.Buffer.{kept, part, wider}
 use Rattle.terms.specs.Bound.{encodeBound, BoundTo}
 use Rattle.terms.proofs.Theorems.{boundLength}
 use Rattle.states.specs.Record.{Placed, boundOf, encodeRecord, encodeRecords, Standing, NodesOf, Written}

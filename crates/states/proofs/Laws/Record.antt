@@ -10,10 +10,10 @@ use Rattle.meaning.specs.Bytes.Standing.{Stands}
 use Rattle.meaning.specs.Steps.State.{Bound}
 use Rattle.meaning.specs.Judging.Limits.{boundNodes}
 use Rattle.meaning.proofs.Bytes.Reading.Place.{_⨾_, whole-stands}
-use Rattle.messages.specs.Encoding.{numberAt}
-use Rattle.messages.specs.Buffer.{Within}
-use Rattle.messages.proofs.Laws.Buffer.{kept, one-after, node-within, node-stands, put-within, put-stands}
-use Rattle.messages.proofs.Laws.Walk.{first-node}
+use Rattle.nodes.specs.Encoding.{numberAt}
+use Rattle.nodes.specs.Buffer.{Within}
+use Rattle.nodes.proofs.Laws.Buffer.{kept, one-after, node-within, node-stands, put-within, put-stands}
+use Rattle.nodes.proofs.Laws.Walk.{first-node}
 use Rattle.terms.specs.Bound.{encodeBound}
 use Rattle.terms.proofs.Laws.Bound.{first-entry}
 use Rattle.states.specs.Record.{NodesOf, Written, HeadStands}

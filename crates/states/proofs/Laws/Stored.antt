@@ -9,10 +9,10 @@ use lib.ListN.{length, take, drop, length-append, length-drop, length-take}
 use lib.Seq.{paste}
 use Rattle.meaning.specs.Bytes.Standing.{Stands}
 use Rattle.meaning.proofs.Bytes.Reading.Place.{parts}
-use Rattle.messages.specs.Encoding.{encodeNode, numberAt}
-use Rattle.messages.specs.Buffer.{Within}
-use Rattle.messages.proofs.Laws.Buffer.{part, put-within, put-stands, copy-within, copy-stands, wider}
-use Rattle.messages.proofs.Laws.Walk.{node-number, node-end}
+use Rattle.nodes.specs.Encoding.{encodeNode, numberAt}
+use Rattle.nodes.specs.Buffer.{Within}
+use Rattle.nodes.proofs.Laws.Buffer.{part, put-within, put-stands, copy-within, copy-stands, wider}
+use Rattle.nodes.proofs.Laws.Walk.{node-number, node-end}
 use Rattle.terms.specs.Bound.{encodeBound}
 use Rattle.meaning.specs.Judging.Limits.{boundNodes}
 use Rattle.states.specs.Record.{Placed, boundOf, encodeRecord, NodesOf}

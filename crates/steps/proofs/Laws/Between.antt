@@ -13,7 +13,7 @@ use Rattle.meaning.specs.Steps.State.{worked}
 use Rattle.meaning.specs.Places.{Every}
 use Rattle.meaning.specs.Bytes.Standing.{Stands}
 use Rattle.meaning.proofs.Every.{every-map}
-use Rattle.messages.specs.Encoding.{encodeMessage}
+use Rattle.nodes.specs.Encoding.{encodeMessage}
 use Rattle.states.specs.Record.{Placed, encodeRecords}
 use Rattle.positions.specs.Joint.{messageOf}
 use Rattle.positions.proofs.Laws.Everywhere.{every-first}
@@ -34,7 +34,7 @@ use Rattle.moves.proofs.Laws.Threads.{threads-from}
 use Rattle.steps.proofs.Laws.BetweenLists.{parties-all}
 use Rattle.steps.proofs.Laws.BetweenOffers.{Sending, sending-all}
 use Rattle.steps.proofs.Laws.BetweenSought.{Seated, spots-seated, first-among, nothing-skipped, sender-skipped}
-use Rattle.meetings.proofs.Laws.Look.{label-zero}
+use Rattle.pairs.proofs.Laws.Look.{label-zero}
 
 false-true : false ≡ true → ⊥
 false-true e = let z : _≡_ {A = ℕ} 0 1 = cc in omega arith

@@ -12,9 +12,9 @@ use Rattle.meaning.specs.Places.{Every}
 use Rattle.meaning.specs.Bytes.Standing.{Stands}
 use Rattle.meaning.specs.Steps.State.{worked}
 use Rattle.meaning.specs.Steps.Offer.{Split}
-use Rattle.messages.specs.Encoding.{encodeMessage}
-use Rattle.messages.specs.Buffer.{Within}
-use Rattle.messages.proofs.Laws.Buffer.{part}
+use Rattle.nodes.specs.Encoding.{encodeMessage}
+use Rattle.nodes.specs.Buffer.{Within}
+use Rattle.nodes.proofs.Laws.Buffer.{part}
 use Rattle.states.specs.Record.{Placed, encodeRecords}
 use Rattle.states.specs.Shown.{encodeMessages}
 use Rattle.positions.specs.Joint.{messageOf}
@@ -40,7 +40,7 @@ use Rattle.moves.proofs.Laws.Threads.{threads-kept, threads-from}
 use Rattle.steps.proofs.Laws.BetweenLists.{Resumes, parties-resumed}
 use Rattle.steps.proofs.Laws.BetweenSought.{Placing, parties-placed}
 use Rattle.steps.proofs.Laws.Between.{sender-known}
-use Rattle.meetings.proofs.Laws.Shown.{shown-more, shown-none}
+use Rattle.pairs.proofs.Laws.Shown.{shown-more, shown-none}
 
 -- The array that the channel was copied to, whole again.
 pub still-fits : {n long : ℕ} (xs : List ℕ) → n ≤ long → length xs ≡ long → n ≤ length (xs ++ [])

@@ -7,14 +7,14 @@ use native.Mathlib.Omega.{arith}
 use lib.ListN.{length}
 use Rattle.meaning.specs.Messages.Term.{Message}
 use Rattle.meaning.specs.Steps.State.{State}
-use Rattle.messages.specs.Buffer.{Within}
+use Rattle.nodes.specs.Buffer.{Within}
 use Rattle.states.specs.declared.state.State as code
 use Rattle.moves.specs.Moves.{Move, labelledMoves}
 use Rattle.forms.specs.Visit.{Labelled}
 use Rattle.moves.specs.Held.{Held}
 use Rattle.moves.specs.Step.{Shown}
 use Rattle.moves.specs.CopyMoves.{Roomy}
-use Rattle.offers.specs.Labelled.{NextLabelled}
+use Rattle.labelled_steps.specs.Labelled.{NextLabelled}
 use Rattle.moves.specs.Behind.{movesOf, modeBefore, nobodyAt, before, Behind, all, later, Searching}
 use Rattle.steps.specs.Next.{Nexts, NextSilent}
 use Rattle.moves.specs.declared.step.Step as step
@@ -22,7 +22,7 @@ use Rattle.moves.specs.declared.step.Label.{Label}
 use Rattle.moves.specs.declared.step.Label.the-variants.{Output, Input, Silent}
 use Rattle.moves.specs.declared.step.Next.{Next}
 use Rattle.moves.proofs.Laws.Start.{held-threads}
-use Rattle.offers.proofs.Laws.LabelledMoves.{labelOf, Asked, first-shown, later-shown}
+use Rattle.labelled_steps.proofs.Laws.LabelledMoves.{labelOf, Asked, first-shown, later-shown}
 
 -- Outputs and inputs.
 module _ {s channel : List ℕ} {st : code.State} {m out message : List ℕ} {r : Next} {said : List ℕ} where

@@ -7,7 +7,7 @@ use native.Mathlib.Omega.{arith}
 use lib.ListN.{length, length-append}
 use Rattle.meaning.specs.Places.{Every}
 use Rattle.meaning.proofs.Every.{every-split}
-use Rattle.messages.specs.Buffer.{Within}
+use Rattle.nodes.specs.Buffer.{Within}
 use Rattle.states.specs.Record.{Placed, encodeRecords}
 use Rattle.states.specs.declared.state.State as code
 use Rattle.positions.specs.Joint.{Pair, Joint}
@@ -35,7 +35,7 @@ use Rattle.moves.proofs.Laws.CopyMovesSilent.{Shared, both, meetings-shared}
 use Rattle.steps.proofs.Laws.BetweenMoves.{betweenAll, betweenResumed}
 use Rattle.meetings.proofs.Laws.ReplThreads.{few-groups}
 use Rattle.meetings.proofs.Laws.Joint.{thread-at}
-use Rattle.meetings.proofs.Laws.Shown.{shown-more, shown-next}
+use Rattle.pairs.proofs.Laws.Shown.{shown-more, shown-next}
 
 -- The steps of two threads.
 abbrev pub meetingsAll : (k : ℕ) → List Placed → List Move

@@ -14,8 +14,8 @@ use Rattle.meaning.specs.Steps.State.{Bound, State}
 use Rattle.meaning.specs.Judging.Limits.{boundNodes, threadNodes}
 use Rattle.meaning.proofs.Every.{every-parts}
 use Rattle.meaning.proofs.Test.{neither}
-use Rattle.messages.specs.Buffer.{Within}
-use Rattle.messages.proofs.Laws.Buffer.{kept}
+use Rattle.nodes.specs.Buffer.{Within}
+use Rattle.nodes.proofs.Laws.Buffer.{kept}
 use Rattle.terms.specs.Bound.{BoundTo}
 use Rattle.states.specs.Record.{Placed}
 use Rattle.walks.specs.Settled.{threadsOf}
@@ -37,7 +37,7 @@ use Rattle.moves.specs.Behind.{movesOf}
 use Rattle.successors.specs.Tasks.{tasksOf, sends}
 use Rattle.moves.specs.Moving.{carried, Leading, Moving}
 use Rattle.rests.specs.Rests.{lastFor}
-use Rattle.successors.specs.Aliases.{appended, Begun, Carries}
+use Rattle.alias_lists.specs.Aliases.{appended, Begun, Carries}
 use Rattle.successors.specs.Rebuild.{Prepared, rebuilt, Rebuilds}
 use Rattle.successors.specs.Lead.{LeadsAt}
 use Rattle.moves.specs.declared.step.Step as step

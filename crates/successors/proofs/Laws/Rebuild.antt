@@ -9,8 +9,8 @@ use lib.ListN.{length}
 use borrow.Author.Tests.{eq-eqb, ne-eqb}
 use Rattle.meaning.specs.Messages.Term.{Message}
 use Rattle.meaning.specs.Steps.State.{Thread, act, repl, names}
-use Rattle.messages.specs.Encoding.{numberAt}
-use Rattle.messages.specs.Buffer.{Within}
+use Rattle.nodes.specs.Encoding.{numberAt}
+use Rattle.nodes.specs.Buffer.{Within}
 use Rattle.states.specs.Record.{Placed, encodeRecord}
 use Rattle.states.specs.Course.{Going, Course, going, over-limit, found, further, push}
 use Rattle.states.specs.Shown.{Shows, ShowsCourse}

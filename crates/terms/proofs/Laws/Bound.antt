@@ -10,10 +10,10 @@ use Rattle.meaning.specs.Messages.Term.{Message, leaf, public, nodes}
 use Rattle.meaning.specs.Bytes.Standing.{Stands}
 use Rattle.meaning.specs.Steps.State.{Bound}
 use Rattle.meaning.proofs.Bytes.Reading.Place.{parts}
-use Rattle.messages.specs.Encoding.{encodeNode, encodeMessage, numberAt}
+use Rattle.nodes.specs.Encoding.{encodeNode, encodeMessage, numberAt}
 use Rattle.terms.specs.Bound.{encodeEntry, encodeBound, Begins, Found}
-use Rattle.messages.proofs.Laws.Encoding.{length-encode}
-use Rattle.messages.proofs.Laws.Walk.{node-number, node-end, first-node}
+use Rattle.nodes.proofs.Laws.Encoding.{length-encode}
+use Rattle.nodes.proofs.Laws.Walk.{node-number, node-end, first-node}
 
 -- Where bound messages stand at the front, the walk over the first i of them has come to this position.
 pub record Passed (b : List ℕ) (i at : ℕ) : Type 0 where

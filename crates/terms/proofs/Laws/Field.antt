@@ -7,9 +7,9 @@ use Rattle.meaning.specs.Bytes.Encoding.{encodeNumber}
 use Rattle.meaning.specs.Bytes.Standing.{Stands}
 use Rattle.meaning.specs.Bytes.Number.{found, refused, number}
 use Rattle.meaning.proofs.Bytes.Reading.Number.{number-complete}
-use Rattle.layouts.specs.Answer.{numeral}
-use Rattle.layouts.specs.declared.number.Numeral.{Numeral}
-use Rattle.layouts.specs.declared.number.Numeral.the-variants.{Value, Truncated, Malformed}
+use Rattle.numbers.specs.Answer.{numeral}
+use Rattle.numbers.specs.declared.number.Numeral.{Numeral}
+use Rattle.numbers.specs.declared.number.Numeral.the-variants.{Value, Truncated, Malformed}
 use Rattle.terms.specs.Inner.{FieldAt}
 
 not-found : {number place n end : ℕ} → refused number place ≡ found n end → ⊥

@@ -11,15 +11,15 @@ use Rattle.meaning.specs.Steps.State.{Bound, written, worked}
 use Rattle.meaning.specs.Judging.Limits.{over}
 use Rattle.meaning.proofs.Bytes.Reading.Place.{_⨾_}
 use Rattle.meaning.proofs.Messages.{normalForms, normal-of-normal}
-use Rattle.messages.specs.Encoding.{encodeNode, encodeMessage, partsOf}
-use Rattle.messages.specs.Buffer.{Within}
+use Rattle.nodes.specs.Encoding.{encodeNode, encodeMessage, partsOf}
+use Rattle.nodes.specs.Buffer.{Within}
 use Rattle.terms.specs.Bound.{BoundAt}
 use Rattle.terms.specs.Work.{Works}
 use Rattle.terms.specs.Inner.{Reduced, NodeWorked, FirstWorked, Joins}
 use Rattle.terms.specs.declared.work.Worked.{Worked}
 use Rattle.terms.specs.declared.work.Worked.the-variants.{Done, TooLarge}
-use Rattle.messages.proofs.Laws.Encoding.{length-encode, side-parts, binary-parts}
-use Rattle.messages.proofs.Laws.Buffer.{kept, node-within, node-stands}
+use Rattle.nodes.proofs.Laws.Encoding.{length-encode, side-parts, binary-parts}
+use Rattle.nodes.proofs.Laws.Buffer.{kept, node-within, node-stands}
 use Rattle.terms.proofs.Laws.Leaf.{over-large}
 use Rattle.terms.proofs.Laws.Work.{still-bound, said-over, said-small, by-reduction}
 

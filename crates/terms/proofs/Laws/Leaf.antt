@@ -14,15 +14,15 @@ use Rattle.meaning.specs.Steps.State.{Bound, worked}
 use Rattle.meaning.specs.Judging.Limits.{over}
 use Rattle.meaning.proofs.Every.{every-getD}
 use Rattle.meaning.proofs.Messages.{normalForms, normal-of-normal}
-use Rattle.messages.specs.Encoding.{encodeMessage}
-use Rattle.messages.specs.Buffer.{Within}
+use Rattle.nodes.specs.Encoding.{encodeMessage}
+use Rattle.nodes.specs.Buffer.{Within}
 use Rattle.terms.specs.Bound.{Found, BoundAt}
 use Rattle.terms.specs.Work.{answerOf, endOf, WorkedTo, Reaches}
 use Rattle.terms.specs.Inner.{FieldAt, NameWorked, VariableWorked}
 use Rattle.terms.specs.declared.work.Worked.{Worked}
 use Rattle.terms.specs.declared.work.Worked.the-variants.{Done, TooLarge}
-use Rattle.messages.proofs.Laws.Encoding.{length-encode}
-use Rattle.messages.proofs.Laws.Buffer.{lent, unlent, unchanged, wider, node-within, node-stands, copy-within, copy-stands}
+use Rattle.nodes.proofs.Laws.Encoding.{length-encode}
+use Rattle.nodes.proofs.Laws.Buffer.{lent, unlent, unchanged, wider, node-within, node-stands, copy-within, copy-stands}
 
 -- An answer is one of the two.
 pub done-or-large : {i j : ℕ} → Done i j ≡ TooLarge → ⊥

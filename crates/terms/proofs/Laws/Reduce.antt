@@ -10,14 +10,14 @@ use lib.Seq.{length-take-le}
 use Rattle.meaning.specs.Messages.Term.{Message}
 use Rattle.meaning.specs.Messages.Normal.{normal, size}
 use Rattle.meaning.specs.Bytes.Standing.{Stands}
-use Rattle.messages.specs.Encoding.{encodeMessage}
+use Rattle.nodes.specs.Encoding.{encodeMessage}
 use Rattle.messages.specs.Normal.{PartsNormal, firstEnd, Normalised}
-use Rattle.messages.specs.Buffer.{Within}
+use Rattle.nodes.specs.Buffer.{Within}
 use Rattle.terms.specs.Work.{answerOf}
 use Rattle.terms.specs.Inner.{Reduced}
 use Rattle.terms.specs.declared.work.Worked.the-variants.{Done, TooLarge}
-use Rattle.messages.proofs.Laws.Encoding.{length-encode}
-use Rattle.messages.proofs.Laws.Buffer.{part, back-within, back-stands}
+use Rattle.nodes.proofs.Laws.Encoding.{length-encode}
+use Rattle.nodes.proofs.Laws.Buffer.{part, back-within, back-stands}
 
 module _ {ys : List ℕ} (before : List ℕ) (start mid end : ℕ) {count : ℕ}
     (n : Normalised (take (end - start) (drop start before)) (mid - start) count ys) where

@@ -4,11 +4,11 @@ use mathlib.Core.List.{List}
 use Prim.Native.Nat.{ℕ, _+_, _-_, _*_, _/_, _%_, _≤_}
 use native.Mathlib.Omega.{arith}
 use lib.ListN.{length, set}
-use Rattle.messages.specs.Buffer.{Within}
+use Rattle.nodes.specs.Buffer.{Within}
 use Rattle.terms.specs.Work.{Reaches}
 use Rattle.terms.specs.declared.work.Worked.{Worked}
 use Rattle.terms.specs.declared.work.Worked.the-variants.{Done}
-use Rattle.messages.proofs.Laws.Buffer.{one-after, wider, node-within}
+use Rattle.nodes.proofs.Laws.Buffer.{one-after, wider, node-within}
 
 -- What one node takes is less than its share.
 module _ {m n : List ℕ} {start left : ℕ} (some : left ≡ 0 → ⊥) where

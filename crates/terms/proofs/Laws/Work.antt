@@ -11,15 +11,15 @@ use Rattle.meaning.specs.Messages.Normal.{normal}
 use Rattle.meaning.specs.Bytes.Standing.{Stands}
 use Rattle.meaning.specs.Steps.State.{Bound, worked}
 use Rattle.meaning.specs.Judging.Limits.{over, overWhole}
-use Rattle.messages.specs.Encoding.{encodeMessage}
-use Rattle.messages.specs.Buffer.{Within}
+use Rattle.nodes.specs.Encoding.{encodeMessage}
+use Rattle.nodes.specs.Buffer.{Within}
 use Rattle.messages.specs.Normal.{PartsNormal, firstEnd}
 use Rattle.terms.specs.Bound.{BoundAt}
 use Rattle.terms.specs.Work.{TermAt, answerOf, WorkedTo, Works}
 use Rattle.terms.specs.Inner.{NameWorked, VariableWorked, Reduced, NodeWorked}
 use Rattle.terms.specs.declared.work.Worked.{Worked}
 use Rattle.terms.specs.declared.work.Worked.the-variants.{Done, TooLarge}
-use Rattle.messages.proofs.Laws.Buffer.{kept}
+use Rattle.nodes.proofs.Laws.Buffer.{kept}
 use Rattle.terms.proofs.Laws.Leaf.{done-or-large}
 use Rattle.terms.proofs.Laws.Term.{term-kind, of-name, of-variable, of-proj, of-binary}
 

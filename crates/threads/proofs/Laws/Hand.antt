@@ -13,9 +13,9 @@ use Rattle.meaning.specs.Bytes.Standing.{Stands}
 use Rattle.meaning.specs.Steps.State.{Bound, worked}
 use Rattle.meaning.specs.Judging.Limits.{over}
 use Rattle.meaning.proofs.Bytes.Reading.Place.{_⨾_}
-use Rattle.messages.specs.Encoding.{encodeMessage}
-use Rattle.messages.specs.Buffer.{Within}
-use Rattle.messages.proofs.Laws.Buffer.{kept, part, put-within, put-stands}
+use Rattle.nodes.specs.Encoding.{encodeMessage}
+use Rattle.nodes.specs.Buffer.{Within}
+use Rattle.nodes.proofs.Laws.Buffer.{kept, part, put-within, put-stands}
 use Rattle.terms.specs.Bound.{BoundTo, BoundAt}
 use Rattle.terms.specs.Work.{TermAt, Works, Reaches}
 use Rattle.terms.specs.declared.work.Worked.{Worked}

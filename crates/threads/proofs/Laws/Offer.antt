@@ -9,8 +9,8 @@ use Rattle.meaning.specs.Messages.Term.{Term}
 use Rattle.meaning.specs.Bytes.Process.{Prefix, output, input, Process}
 use Rattle.meaning.specs.Steps.State.{Bound}
 use Rattle.meaning.specs.Judging.Limits.{over}
-use Rattle.messages.specs.Buffer.{Within}
-use Rattle.messages.proofs.Laws.Buffer.{kept}
+use Rattle.nodes.specs.Buffer.{Within}
+use Rattle.nodes.proofs.Laws.Buffer.{kept}
 use Rattle.layouts.specs.Ends.{TermEnd}
 use Rattle.terms.specs.Bound.{BoundTo, BoundAt}
 use Rattle.terms.specs.Work.{TermAt, Works}

@@ -15,11 +15,11 @@ use Rattle.meaning.specs.Bytes.Standing.{Stands}
 use Rattle.meaning.specs.Steps.State.{Bound, worked}
 use Rattle.meaning.specs.Judging.Limits.{over}
 use Rattle.meaning.proofs.Bytes.Reading.Place.{_⨾_, parts}
-use Rattle.messages.specs.Encoding.{encodeMessage}
-use Rattle.messages.specs.Buffer.{Within}
-use Rattle.messages.specs.Run.{alike}
-use Rattle.messages.proofs.Laws.Alike.{same-runs}
-use Rattle.messages.proofs.Laws.Buffer.{part}
+use Rattle.nodes.specs.Encoding.{encodeMessage}
+use Rattle.nodes.specs.Buffer.{Within}
+use Rattle.nodes.specs.Run.{alike}
+use Rattle.nodes.proofs.Laws.Alike.{same-runs}
+use Rattle.nodes.proofs.Laws.Buffer.{part}
 use Rattle.layouts.specs.Ends.{TermsEnd}
 use Rattle.layouts.proofs.Laws.Standing.{first-byte}
 use Rattle.terms.specs.Bound.{BoundTo}

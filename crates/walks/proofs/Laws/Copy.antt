@@ -7,8 +7,8 @@ use native.Mathlib.Omega.{arith}
 use Rattle.meaning.specs.Messages.Term.{Message}
 use Rattle.meaning.specs.Bytes.Process.{Process}
 use Rattle.meaning.specs.Steps.State.{Bound, repl}
-use Rattle.messages.specs.Buffer.{Within}
-use Rattle.messages.proofs.Laws.Buffer.{unchanged}
+use Rattle.nodes.specs.Buffer.{Within}
+use Rattle.nodes.proofs.Laws.Buffer.{unchanged}
 use Rattle.walks.specs.News.{news}
 use Rattle.states.specs.Course.{Going, Course, going, over-limit, found, named, returned}
 use Rattle.threads.specs.Machine.{opening, opened}

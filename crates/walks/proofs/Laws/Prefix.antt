@@ -10,7 +10,7 @@ use Rattle.meaning.specs.Messages.Term.{Message}
 use Rattle.meaning.specs.Bytes.Process.{Prefix, output, input, Process}
 use Rattle.meaning.specs.Places.{Every, none, _also_}
 use Rattle.meaning.specs.Steps.State.{Bound, _▸_, act}
-use Rattle.messages.specs.Buffer.{Within}
+use Rattle.nodes.specs.Buffer.{Within}
 use Rattle.terms.specs.Bound.{BindsRun}
 use Rattle.terms.proofs.Theorems.{boundFurther}
 use Rattle.states.specs.Place.{thenAt, bodyAt, restAt}

@@ -14,15 +14,15 @@ use Rattle.meaning.specs.Bytes.Nesting.{variables}
 use Rattle.meaning.specs.Steps.State.{Bound, _▸_, written, worked}
 use Rattle.meaning.specs.Judging.Limits.{over}
 use Rattle.meaning.proofs.Messages.{normalForms}
-use Rattle.messages.specs.Buffer.{Within}
+use Rattle.nodes.specs.Buffer.{Within}
 use Rattle.layouts.specs.Ends.{ProcessEnd}
 use Rattle.terms.specs.Bound.{Binds}
 use Rattle.terms.specs.Work.{BindWorked, Reaches}
-use Rattle.terms.specs.Decide.{Compares, comparedOf}
+use Rattle.binds.specs.Decide.{Compares, comparedOf}
 use Rattle.terms.specs.declared.work.Worked.{Worked}
 use Rattle.terms.specs.declared.work.Worked.the-variants.{Done, TooLarge}
-use Rattle.terms.specs.declared.decide.Compared.{Compared}
-use Rattle.terms.specs.declared.decide.Compared.the-variants as compared
+use Rattle.binds.specs.declared.decide.Compared.{Compared}
+use Rattle.binds.specs.declared.decide.Compared.the-variants as compared
 use Rattle.terms.proofs.Laws.Work.{said-over, said-small}
 use Rattle.terms.proofs.Theorems.{boundFurther}
 use Rattle.states.specs.Place.{ProcessAt, thenAt, elseAt, rightAt}

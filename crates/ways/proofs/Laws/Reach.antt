@@ -9,7 +9,7 @@ use Rattle.meaning.specs.Messages.Term.{leaf, public, Message}
 use Rattle.meaning.specs.Bytes.Process.{Prefix, output, input, Process}
 use Rattle.meaning.specs.Steps.State.{Bound, _▸_, names}
 use Rattle.meaning.specs.Judging.Limits.{overSettling}
-use Rattle.messages.specs.Buffer.{Within}
+use Rattle.nodes.specs.Buffer.{Within}
 use Rattle.terms.specs.Bound.{BindsRun}
 use Rattle.terms.proofs.Theorems.{boundFurther}
 use Rattle.walks.specs.News.{news, laterNews}

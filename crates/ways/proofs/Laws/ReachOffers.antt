@@ -14,7 +14,7 @@ use Rattle.meaning.specs.Steps.State.{Bound, Thread, act, repl, names, settle}
 use Rattle.meaning.specs.Logic.Truth.{anyOf}
 use Rattle.meaning.specs.Judging.Limits.{overSettling, overOffers}
 use Rattle.meaning.proofs.Every.{every-map}
-use Rattle.messages.proofs.Laws.Buffer.{unchanged}
+use Rattle.nodes.proofs.Laws.Buffer.{unchanged}
 use Rattle.terms.specs.Bound.{BoundTo}
 use Rattle.walks.specs.News.{news}
 use Rattle.states.specs.Record.{Placed, processOf, boundOf, Standing}

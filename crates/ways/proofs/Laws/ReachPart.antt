@@ -15,8 +15,8 @@ use Rattle.meaning.specs.Bytes.Standing.{Stands}
 use Rattle.meaning.specs.Steps.State.{Bound, _▸_, written, worked, names}
 use Rattle.meaning.proofs.Messages.{normalForms}
 use Rattle.meaning.proofs.Bytes.Reading.Place.{_⨾_}
-use Rattle.messages.specs.Buffer.{Within}
-use Rattle.messages.proofs.Laws.Buffer.{unchanged}
+use Rattle.nodes.specs.Buffer.{Within}
+use Rattle.nodes.proofs.Laws.Buffer.{unchanged}
 use Rattle.layouts.specs.Ends.{ProcessEnd, TermsEnd}
 use Rattle.terms.specs.Bound.{Binds}
 use Rattle.terms.specs.Work.{BindWorked}

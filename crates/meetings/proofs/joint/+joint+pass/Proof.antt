@@ -2,7 +2,7 @@
 -- many times one copy or two of a repl thread are still looked at. Assumes nothing.
 use Prim.Native.Nat.{ℕ, _+_, _*_, _-_, _<_}
 use borrow.Author.Needs.{needs}
-use Rattle.messages.proofs.Laws.Buffer.{unchanged}
+use Rattle.nodes.proofs.Laws.Buffer.{unchanged}
 use Rattle.states.proofs.Laws.Progress.{to-ends}
 use Rattle.meetings.proofs.Laws.Joint.{joinings, joins-passed, passings}
 use borrow.Fn.Kinds.{In}
@@ -13,9 +13,9 @@ use Rattle.meetings.proofs.joint.+joint+pass.Lts-joint as joint-lts
 use Rattle.meetings.proofs.joint.pass.Reads as pass
 use Rattle.meetings.proofs.joint.pass.Kinds as pass-kinds
 use Rattle.meetings.proofs.joint.+joint+pass.Lts-pass as pass-lts
-use Rattle.messages.proofs.node.number.Reads as number-reads
+use Rattle.nodes.proofs.node.number.Reads as number-reads
 use Rattle.meetings.proofs.joint.find.Reads as find-reads
-use Rattle.meetings.proofs.meet.meet.Reads as meet-reads
+use Rattle.pairs.proofs.meet.meet.Reads as meet-reads
 use Rattle.meetings.proofs.joint.+joint+pass.{statement}
 use Rattle.meetings.proofs.joint.+joint+pass.Tie.{close}
 

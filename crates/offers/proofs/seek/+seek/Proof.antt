@@ -3,13 +3,13 @@ use Prim.Native.Nat.{ℕ, _-_, _<_}
 use borrow.Author.Needs.{needs}
 use borrow.Fn.Kinds.{In}
 use borrow.Fn.PlainCycle.{Measures, is, falls, and}
-use Rattle.messages.proofs.Laws.Buffer.{unchanged}
+use Rattle.nodes.proofs.Laws.Buffer.{unchanged}
 use Rattle.states.proofs.Laws.Progress.{to-ends}
 use Rattle.offers.proofs.Laws.Seek.{seekings, seek-passed}
 use Rattle.offers.proofs.seek.seek.Reads as seek
 use Rattle.offers.proofs.seek.seek.Kinds as seek-kinds
 use Rattle.offers.proofs.seek.+seek.Lts-seek as seek-lts
-use Rattle.messages.proofs.node.number.Reads as number-reads
+use Rattle.nodes.proofs.node.number.Reads as number-reads
 use Rattle.offers.proofs.seek.afresh.Reads as afresh-reads
 use Rattle.offers.proofs.seek.nothing.Reads as nothing-reads
 use Rattle.offers.proofs.seek.look.Reads as look-reads

@@ -5,8 +5,8 @@ use Prim.Native.Nat.{ℕ, _<_}
 use borrow.Author.Needs.{needs}
 use borrow.Fn.Kinds.{In}
 use borrow.Fn.PlainCycle.{Measures, is, falls, and}
-use Rattle.reading.proofs.Laws.Headed.{headed}
-use Rattle.reading.proofs.Laws.Node.{nodes}
+use Rattle.term_reading.proofs.Laws.Headed.{headed}
+use Rattle.term_reading.proofs.Laws.Node.{nodes}
 use Rattle.reading.proofs.Laws.Scope.{aliases}
 use Rattle.reading.proofs.Laws.Sorts.{formula-layout}
 use Rattle.reading.proofs.formula.read.Reads as read

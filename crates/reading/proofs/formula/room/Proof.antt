@@ -1,10 +1,10 @@
 -- `reading::formula::room` meets its contract. Assumes nothing.
 use borrow.Author.Needs.{needs}
-use Rattle.reading.proofs.Laws.Head.{heads}
+use Rattle.reading.proofs.Laws.Room.{rooms}
 use Rattle.reading.proofs.formula.room.Statement.{statement}
 use Rattle.reading.proofs.formula.room.Tie as tie
 
 pub room-spec : {M : Type 1} → statement M
 room-spec = tie.close (tie.spec
-    (λ c. search (needs, heads))
-    (λ c. search (needs, heads)))
+    (λ c. search (needs, rooms))
+    (λ c. search (needs, rooms)))

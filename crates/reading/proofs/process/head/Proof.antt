@@ -1,7 +1,8 @@
 -- `reading::process::head` meets its contract, by the laws of heads. Assumes nothing.
 use borrow.Author.Needs.{needs}
-use Rattle.reading.proofs.Laws.Head.{heads}
-use Rattle.reading.proofs.Laws.Headed.{listed}
+use Rattle.term_reading.proofs.Laws.Head.{heads}
+use Rattle.term_reading.proofs.Laws.Headed.{listed}
+use Rattle.reading.proofs.Laws.Room.{rooms}
 use Rattle.reading.proofs.process.head.Statement.{statement}
 use Rattle.reading.proofs.process.head.Tie as tie
 
@@ -10,13 +11,13 @@ head-spec = tie.close (tie.spec
     (λ c κs. search needs)
     (λ c. search needs)
     (λ c κs. search (needs, listed))
-    (λ c. search (needs, heads))
+    (λ c. search (needs, heads, rooms))
     (λ c κs. search needs)
-    (λ c. search (needs, heads))
+    (λ c. search (needs, heads, rooms))
     (λ c κs. search needs)
     (λ c. search needs)
     (λ c. search needs)
     (λ c. search needs)
-    (λ c. search (needs, heads))
-    (λ c. search (needs, heads))
-    (λ c. search (needs, heads)))
+    (λ c. search (needs, heads, rooms))
+    (λ c. search (needs, heads, rooms))
+    (λ c. search (needs, heads, rooms)))

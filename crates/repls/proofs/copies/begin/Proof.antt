@@ -1,6 +1,6 @@
 -- `threads::copies::begin` meets its contract: the thread before its copies. Assumes nothing.
 use borrow.Author.Needs.{needs}
-use Rattle.messages.proofs.Laws.Buffer.{unchanged}
+use Rattle.nodes.proofs.Laws.Buffer.{unchanged}
 use Rattle.states.proofs.Laws.Progress.{extensions}
 use Rattle.repls.proofs.Laws.Decided.{beginnings}
 use Rattle.repls.proofs.copies.begin.Statement.{statement}

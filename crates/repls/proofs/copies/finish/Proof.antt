@@ -1,6 +1,6 @@
 -- `threads::copies::finish` meets its contract: the thread after its copies. Assumes nothing.
 use borrow.Author.Needs.{needs}
-use Rattle.messages.proofs.Laws.Buffer.{unchanged}
+use Rattle.nodes.proofs.Laws.Buffer.{unchanged}
 use Rattle.states.proofs.Laws.Progress.{extensions}
 use Rattle.repls.proofs.Laws.Decided.{finishings}
 use Rattle.repls.proofs.copies.finish.Statement.{statement}

@@ -1,6 +1,6 @@
 -- `rests::names::after` meets its contract. Assumes nothing.
 use borrow.Author.Needs.{needs}
-use Rattle.messages.proofs.Laws.Buffer.{unchanged}
+use Rattle.nodes.proofs.Laws.Buffer.{unchanged}
 use Rattle.rests.proofs.Laws.Rests.{actors}
 use Rattle.rests.proofs.names.after.Statement.{statement}
 use Rattle.rests.proofs.names.after.Tie as tie

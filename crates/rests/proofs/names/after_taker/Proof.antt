@@ -1,6 +1,6 @@
 -- `rests::names::after_taker` meets its contract. Assumes nothing.
 use borrow.Author.Needs.{needs}
-use Rattle.messages.proofs.Laws.Buffer.{unchanged}
+use Rattle.nodes.proofs.Laws.Buffer.{unchanged}
 use Rattle.rests.proofs.Laws.Rests.{takings}
 use Rattle.rests.proofs.names.after_taker.Statement.{statement}
 use Rattle.rests.proofs.names.after_taker.Tie as tie

@@ -1,6 +1,6 @@
 -- `states::stored::keep` meets its contract. Assumes nothing.
 use borrow.Author.Needs.{needs}
-use Rattle.messages.proofs.Laws.Buffer.{unchanged}
+use Rattle.nodes.proofs.Laws.Buffer.{unchanged}
 use Rattle.states.proofs.Laws.Progress.{stopped-extends}
 use Rattle.states.proofs.Laws.Push.{pushed-extends}
 use Rattle.states.proofs.Laws.Stored.{keepings, copy-asks, keep-within}

@@ -1,6 +1,6 @@
 -- `states::stored::load` meets its contract: the two numbers, and then the messages. Assumes nothing.
 use borrow.Author.Needs.{needs}
-use Rattle.messages.proofs.Laws.Buffer.{unchanged}
+use Rattle.nodes.proofs.Laws.Buffer.{unchanged}
 use Rattle.states.proofs.Laws.Stored.{loads, loaded-within}
 use Rattle.states.proofs.stored.load.Statement.{statement}
 use Rattle.states.proofs.stored.load.Tie as tie

@@ -2,7 +2,7 @@
 use borrow.Author.Needs.{needs}
 use Rattle.states.proofs.Laws.Progress.{extensions}
 use Rattle.states.proofs.Laws.Written.{keepings}
-use Rattle.messages.proofs.Laws.Buffer.{unchanged}
+use Rattle.nodes.proofs.Laws.Buffer.{unchanged}
 use Rattle.states.proofs.written.keep.Statement.{statement}
 use Rattle.states.proofs.written.keep.Tie as tie
 

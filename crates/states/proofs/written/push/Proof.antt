@@ -1,6 +1,6 @@
 -- `states::written::push` meets its contract: a state with one record more, or none. Assumes nothing.
 use borrow.Author.Needs.{needs}
-use Rattle.messages.proofs.Laws.Buffer.{unchanged}
+use Rattle.nodes.proofs.Laws.Buffer.{unchanged}
 use Rattle.states.proofs.Laws.Progress.{stopped-extends}
 use Rattle.states.proofs.Laws.Room.{record-rooms}
 use Rattle.states.proofs.Laws.Push.{pushes, push-bounds}

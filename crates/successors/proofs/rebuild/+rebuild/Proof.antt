@@ -4,13 +4,13 @@ use Prim.Native.Nat.{ℕ, _-_, _<_}
 use borrow.Author.Needs.{needs}
 use borrow.Fn.Kinds.{In}
 use borrow.Fn.PlainCycle.{Measures, is, falls, and}
-use Rattle.messages.proofs.Laws.Buffer.{unchanged}
+use Rattle.nodes.proofs.Laws.Buffer.{unchanged}
 use Rattle.states.proofs.Laws.Progress.{extensions, to-ends, records-ends}
 use Rattle.successors.proofs.Laws.Rebuild.{rebuilds, one-more}
 use Rattle.successors.proofs.rebuild.rebuild.Reads as rebuild
 use Rattle.successors.proofs.rebuild.rebuild.Kinds as rebuild-kinds
 use Rattle.successors.proofs.rebuild.+rebuild.Lts-rebuild as rebuild-lts
-use Rattle.messages.proofs.node.number.Reads as number-reads
+use Rattle.nodes.proofs.node.number.Reads as number-reads
 use Rattle.successors.proofs.rebuild.one.Reads as one-reads
 use Rattle.successors.proofs.rebuild.+rebuild.{statement}
 use Rattle.successors.proofs.rebuild.+rebuild.Tie.{close}

@@ -1,7 +1,7 @@
 -- `successors::rebuild::one` meets its contract. Assumes nothing.
 use borrow.Author.Needs.{needs}
 use Rattle.successors.proofs.Laws.Rebuild.{renewals}
-use Rattle.messages.proofs.Laws.Buffer.{unchanged}
+use Rattle.nodes.proofs.Laws.Buffer.{unchanged}
 use Rattle.successors.proofs.rebuild.one.Statement.{statement}
 use Rattle.successors.proofs.rebuild.one.Tie as tie
 

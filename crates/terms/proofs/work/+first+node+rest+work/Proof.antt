@@ -5,7 +5,7 @@ use Prim.Native.Nat.{ℕ, _+_, _*_, _<_}
 use borrow.Author.Needs.{needs}
 use borrow.Fn.Kinds.{In, PK}
 use borrow.Fn.PlainCycle.{Measures, is, falls, and}
-use Rattle.messages.proofs.Laws.Buffer.{unchanged}
+use Rattle.nodes.proofs.Laws.Buffer.{unchanged}
 use Rattle.terms.proofs.Laws.Leaf.{no-reach}
 use Rattle.terms.proofs.Laws.Work.{works}
 use Rattle.terms.proofs.Laws.Inner.{joins, behind-kind, firsts}
@@ -22,9 +22,9 @@ use Rattle.terms.proofs.work.+first+node+rest+work.Lts-rest as rest-lts
 use Rattle.terms.proofs.work.work.Reads as work
 use Rattle.terms.proofs.work.work.Kinds as work-kinds
 use Rattle.terms.proofs.work.+first+node+rest+work.Lts-work as work-lts
-use Rattle.messages.proofs.node.parts.Reads as parts-reads
-use Rattle.messages.proofs.node.wide.Reads as wide-reads
-use Rattle.messages.proofs.node.write.Reads as write-reads
+use Rattle.nodes.proofs.node.parts.Reads as parts-reads
+use Rattle.nodes.proofs.node.wide.Reads as wide-reads
+use Rattle.nodes.proofs.node.write.Reads as write-reads
 use Rattle.terms.proofs.leaf.name.Reads as name-reads
 use Rattle.terms.proofs.work.reduce.Reads as reduce-reads
 use Rattle.terms.proofs.leaf.variable.Reads as variable-reads

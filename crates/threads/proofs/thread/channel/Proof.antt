@@ -1,6 +1,6 @@
 -- `threads::thread::channel` meets its contract: a channel that is worked and compared. Assumes nothing.
 use borrow.Author.Needs.{needs}
-use Rattle.messages.proofs.Laws.Buffer.{unchanged}
+use Rattle.nodes.proofs.Laws.Buffer.{unchanged}
 use Rattle.states.proofs.Laws.Progress.{to-end}
 use Rattle.threads.proofs.Laws.Hand.{reaches}
 use Rattle.threads.proofs.Laws.Seek.{found-extends, channels}

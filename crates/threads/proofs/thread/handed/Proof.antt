@@ -1,6 +1,6 @@
 -- `threads::thread::handed` meets its contract: an input is found, or an output with its messages. Assumes nothing.
 use borrow.Author.Needs.{needs}
-use Rattle.messages.proofs.Laws.Buffer.{unchanged}
+use Rattle.nodes.proofs.Laws.Buffer.{unchanged}
 use Rattle.states.proofs.Laws.Progress.{to-end}
 use Rattle.threads.proofs.Laws.Hand.{reaches, hands}
 use Rattle.threads.proofs.Laws.Seek.{found-extends}

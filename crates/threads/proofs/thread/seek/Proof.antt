@@ -1,6 +1,6 @@
 -- `threads::thread::seek` meets its contract: an offer that is looked at. Assumes nothing.
 use borrow.Author.Needs.{needs}
-use Rattle.messages.proofs.Laws.Buffer.{unchanged}
+use Rattle.nodes.proofs.Laws.Buffer.{unchanged}
 use Rattle.threads.proofs.Laws.Seek.{found-extends, seeks}
 use Rattle.threads.proofs.thread.seek.Statement.{statement}
 use Rattle.threads.proofs.thread.seek.Tie as tie

@@ -1,6 +1,6 @@
 -- `threads::thread::send` meets its contract: the messages stand behind the records of the state. Assumes nothing.
 use borrow.Author.Needs.{needs}
-use Rattle.messages.proofs.Laws.Buffer.{unchanged}
+use Rattle.nodes.proofs.Laws.Buffer.{unchanged}
 use Rattle.threads.proofs.Laws.Hand.{sends}
 use Rattle.threads.proofs.Laws.Seek.{found-extends}
 use Rattle.threads.proofs.thread.send.Statement.{statement}

@@ -2,7 +2,7 @@
 use borrow.Author.Needs.{needs}
 use Rattle.states.proofs.Laws.Progress.{extensions}
 use Rattle.threads.proofs.Laws.Thread.{settlings}
-use Rattle.messages.proofs.Laws.Buffer.{unchanged}
+use Rattle.nodes.proofs.Laws.Buffer.{unchanged}
 use Rattle.threads.proofs.thread.settle.Statement.{statement}
 use Rattle.threads.proofs.thread.settle.Tie as tie
 

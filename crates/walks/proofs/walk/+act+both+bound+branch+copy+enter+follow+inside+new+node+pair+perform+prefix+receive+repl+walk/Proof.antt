@@ -5,7 +5,7 @@ use Prim.Native.Nat.{ℕ, _+_, _*_, _<_}
 use borrow.Author.Needs.{needs}
 use borrow.Fn.Kinds.{In, PK}
 use borrow.Fn.PlainCycle.{Measures, is, falls, and}
-use Rattle.messages.proofs.Laws.Buffer.{unchanged}
+use Rattle.nodes.proofs.Laws.Buffer.{unchanged}
 use Rattle.states.proofs.Laws.Progress.{extensions, to-ends, to-end-after, to-end-bound, records-ends}
 use Rattle.walks.proofs.Laws.Walk.{walks, nodes, news-walked, lets-walked, let-ends, ifs-walked, par-walked}
 use Rattle.walks.proofs.Laws.Copy.{names-back, copies}
@@ -59,15 +59,15 @@ use Rattle.walks.proofs.walk.+act+both+bound+branch+copy+enter+follow+i
 use Rattle.walks.proofs.walk.walk.Reads as walk
 use Rattle.walks.proofs.walk.walk.Kinds as walk-kinds
 use Rattle.walks.proofs.walk.+act+both+bound+branch+copy+enter+follow+inside+new+node+pair+perform+prefix+receive+repl+walk.Lts-walk as walk-lts
-use Rattle.messages.proofs.node.wide.Reads as wide-reads
+use Rattle.nodes.proofs.node.wide.Reads as wide-reads
 use Rattle.layouts.proofs.ends.process.Reads as process-reads
 use Rattle.states.proofs.progress.named.Reads as named-reads
 use Rattle.states.proofs.progress.stop.Reads as stop-reads
 use Rattle.states.proofs.written.push.Reads as push-reads
-use Rattle.terms.proofs.bind.message.Reads as message-reads
-use Rattle.terms.proofs.bind.name.Reads as name-reads
-use Rattle.terms.proofs.bind.term.Reads as term-reads
-use Rattle.terms.proofs.decide.terms.Reads as terms-reads
+use Rattle.binds.proofs.bind.message.Reads as message-reads
+use Rattle.binds.proofs.bind.name.Reads as name-reads
+use Rattle.binds.proofs.bind.term.Reads as term-reads
+use Rattle.binds.proofs.decide.terms.Reads as terms-reads
 use Rattle.repls.proofs.copies.begin.Reads as begin-reads
 use Rattle.repls.proofs.copies.finish.Reads as finish-reads
 use Rattle.repls.proofs.copies.needed.Reads as needed-reads

@@ -1,6 +1,6 @@
 -- `ways::count::rest` meets its contract. Assumes nothing.
 use borrow.Author.Needs.{needs}
-use Rattle.messages.proofs.Laws.Buffer.{unchanged}
+use Rattle.nodes.proofs.Laws.Buffer.{unchanged}
 use Rattle.states.proofs.Laws.Progress.{to-end-bound}
 use Rattle.ways.proofs.Laws.Reach.{rests-counted}
 use Rattle.ways.proofs.count.rest.Statement.{statement}

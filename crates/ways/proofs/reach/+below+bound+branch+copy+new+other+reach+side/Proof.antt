@@ -5,7 +5,7 @@ use Prim.Native.Nat.{ℕ, _+_, _*_, _<_}
 use borrow.Author.Needs.{needs}
 use borrow.Fn.Kinds.{In, PK}
 use borrow.Fn.PlainCycle.{Measures, is, falls, and}
-use Rattle.messages.proofs.Laws.Buffer.{unchanged}
+use Rattle.nodes.proofs.Laws.Buffer.{unchanged}
 use Rattle.states.proofs.Laws.Progress.{to-end, to-end-twice, to-end-again, to-end-after}
 use Rattle.walks.proofs.Laws.Walk.{let-ends}
 use Rattle.ways.proofs.Laws.ReachKinds.{begins, kinds}
@@ -34,14 +34,14 @@ use Rattle.ways.proofs.reach.+below+bound+branch+copy+new+other+reach+s
 use Rattle.ways.proofs.reach.side.Reads as side
 use Rattle.ways.proofs.reach.side.Kinds as side-kinds
 use Rattle.ways.proofs.reach.+below+bound+branch+copy+new+other+reach+side.Lts-side as side-lts
-use Rattle.messages.proofs.node.wide.Reads as wide-reads
+use Rattle.nodes.proofs.node.wide.Reads as wide-reads
 use Rattle.layouts.proofs.ends.process.Reads as process-reads
 use Rattle.layouts.proofs.ends.terms.Reads as terms-reads
 use Rattle.threads.proofs.place.holds.Reads as holds-reads
 use Rattle.ways.proofs.reach.nowhere.Reads as nowhere-reads
 use Rattle.ways.proofs.count.taken.Reads as taken-reads
-use Rattle.terms.proofs.bind.name.Reads as name-reads
-use Rattle.terms.proofs.bind.term.Reads as term-reads
+use Rattle.binds.proofs.bind.name.Reads as name-reads
+use Rattle.binds.proofs.bind.term.Reads as term-reads
 use Rattle.ways.proofs.reach.+below+bound+branch+copy+new+other+reach+side.{statement}
 use Rattle.ways.proofs.reach.+below+bound+branch+copy+new+other+reach+side.Tie.{close}
 

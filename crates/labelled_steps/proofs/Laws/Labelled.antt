@@ -1,0 +1,174 @@
+-- The next output or input on the channel of a label ("Steps"). Assumes nothing.
+use mathlib.Core.Path.{_≡_, refl, sym, _∙_, ap, subst}
+use mathlib.Core.Bool.{Bool, true, false}
+use mathlib.Core.List.{List, [], _∷_}
+use Prim.Native.Nat.{ℕ, _+_, _-_, _*_, _≤_, _<_}
+use native.Mathlib.Omega.{arith}
+use lib.ListN.{length, take, drop, drop-of-length-le}
+use Rattle.meaning.specs.Messages.Term.{Message}
+use Rattle.meaning.specs.Bytes.Process.{Prefix, output, input}
+use Rattle.meaning.specs.Bytes.Standing.{Stands}
+use Rattle.meaning.specs.Places.{Every, _also_}
+use Rattle.meaning.specs.Steps.State.{worked}
+use Rattle.meaning.specs.Judging.Limits.{over}
+use Rattle.meaning.proofs.Test.{neither}
+use Rattle.meaning.proofs.Bytes.Reading.Place.{parts}
+use Rattle.nodes.specs.Encoding.{encodeMessage}
+use Rattle.nodes.specs.Buffer.{Within}
+use Rattle.nodes.specs.Run.{SizeOf}
+use Rattle.nodes.proofs.Laws.Encoding.{length-encode}
+use Rattle.nodes.proofs.Laws.Walk.{some-node}
+use Rattle.states.specs.Shown.{encodeMessages}
+use Rattle.threads.specs.declared.task.Quest.{Quest}
+use Rattle.states.specs.declared.progress.Progress.{Progress}
+use Rattle.states.specs.declared.state.State.{State}
+use Rattle.positions.specs.Located.{Acting, prefixed}
+use Rattle.positions.specs.Sought.{wanted, sentBy}
+use Rattle.moves.specs.Spot.{Spot, recordAt}
+use Rattle.moves.specs.Moves.{Move, alone, inside, between, labelled}
+use Rattle.forms.specs.Visit.{Labelled}
+use Rattle.moves.specs.Step.{stepOf, runOf, Shown}
+use Rattle.offers.specs.Seek.{Sees, ShowsSight, Seeks}
+use Rattle.labelled_steps.specs.Labelled.{labelledFrom, Follows, NextLabelled, outputStep, inputStep, HandsOver}
+use Rattle.offers.specs.declared.seek.Sighting.{Sighting}
+use Rattle.offers.specs.Hand.{Copies}
+use Rattle.moves.specs.declared.step.Step.{Step}
+use Rattle.moves.specs.declared.step.Label.the-variants.{Output, Input, Silent}
+use Rattle.moves.specs.declared.step.Next.{Next}
+use Rattle.moves.specs.declared.step.Next.the-variants.{Found, None}
+use Rattle.moves.proofs.Laws.Allowed.{run-short}
+use Rattle.moves.proofs.Laws.Threads.{stands-ends}
+use Rattle.labelled_steps.proofs.Laws.SeekMoves.{sightOf}
+use Rattle.labelled_steps.proofs.Laws.LabelledBehind.{Small, Offered, Ahead, ahead}
+use Rattle.offers.proofs.Laws.Hand.{size-of}
+
+module _ (out : List ℕ) (at : ℕ) (now : Progress) {message : List ℕ} where
+  pub handed-beyond : length out < now .sent → HandsOver out at now message None message
+  unfolding encodeMessages
+  handed-beyond h = record {
+    exact = λ x y p l.
+        let (mid, a, rest) = parts (encodeMessage x) (encodeMessages (y ∷ []) ∷ []) p in
+        absurd (omega (arith, stands-ends a (omega (arith, length-encode x, some-node x)), a .size));
+  }
+
+  -- The message stands behind the channel.
+  pub handed-over : {n size : ℕ} {after : List ℕ} → SizeOf (take (length out - now .sent) (drop (now .sent) out)) n
+      → Copies out (now .sent + 2 * n) size after → length after ≡ length message
+      → HandsOver out at now message (Found (outputStep at now size)) after
+  unfolding encodeMessages
+  handed-over {n} {size} w c same = record {
+    exact = λ x y p l.
+        let (mid, a, rest) = parts (encodeMessage x) (encodeMessages (y ∷ []) ∷ []) p in
+        let (last, b, e) = parts (encodeMessage y) ([] ∷ []) rest in
+        let here : mid ≡ now .sent + 2 * n = omega (arith, a .size, size-of out w x a) in
+        let there = c .exact y (subst (λ (i : ℕ). Stands out i (encodeMessage y) last) here b) (omega arith) in
+        let long : size ≡ length (encodeMessage y) = omega (arith, there .size) in
+        (ap (λ (k : ℕ). Found (outputStep at now k)) long, rw long at there);
+  }
+
+pub ruleset hands = (handed-beyond, handed-over)
+
+pub handed-within : {a b : List ℕ} → length b ≡ length a → Within 0 (length a) a b
+handed-within {a} {b} e = record {
+  long = e;
+  below = refl;
+  above = drop-of-length-le b {i = length a} (omega arith) ∙ sym (drop-of-length-le a {i = length a} (omega arith));
+}
+
+-- The step of an offer that was seen.
+module _ (start : ℕ) (p : Spot) (a : Acting) (x : Message) (ws : List Move) where
+  output-shown : {found : Sighting} {after₁ message after : List ℕ} {r : Next} (f : Prefix)
+      → Sees after₁ found (recordAt start p) (prefixed a f) → wanted (labelled true) x (prefixed a f) ≡ true
+      → Small (prefixed a f) → HandsOver after₁ (found .at) (found .done) message r after → 510 ≤ length message
+      → Shown start after r (alone p (prefixed a f) ∷ ws)
+  unfolding wanted sentBy stepOf runOf
+  output-shown (output C M) v w o h l =
+      let short = run-short (a .bound) M (neither (over (a .bound) C) _ o .1) in
+      let (e, s) = h .exact (worked (a .bound) C) (worked (a .bound) M) (v .messages) (omega arith) in
+      (e ∙ rw (v .at, v .mark, v .next), s)
+  output-shown (input C) v w o h l = absurd (let z : _≡_ {A = ℕ} 0 1 = cc in omega arith)
+
+  input-shown : {found : Sighting} {after₁ : List ℕ} (message : List ℕ) (f : Prefix)
+      → Sees after₁ found (recordAt start p) (prefixed a f) → wanted (labelled false) x (prefixed a f) ≡ true
+      → Shown start message (Found (inputStep (found .at) (found .done))) (alone p (prefixed a f) ∷ ws)
+  unfolding wanted stepOf runOf
+  input-shown message (output C M) v w = absurd (let z : _≡_ {A = ℕ} 0 1 = cc in omega arith)
+  input-shown message (input C) v w = (rw (v .at, v .mark, v .next), record { bytes = refl; size = refl })
+
+-- What the search among the threads shows is the first move behind the cursor.
+module _ (sending : Bool) (s channel : List ℕ) (st : State) (at from : ℕ) (m out message : List ℕ) {q : Quest} {found : Sighting}
+    {out₁ : List ℕ} (e : q ≡ labelledFrom sending from) (v : Seeks s channel at (st .end) m q (st .end) (st .names) out found out₁) where
+  sighted : (x : Message) (ws : List Move) → Ahead s out (st .start) at from (st .end) (st .names) sending x ws → Labelled channel x
+      → length s ≤ 4096 → 10750 ≤ length m → st .end + 3964 ≤ length out → st .names ≤ 28664
+      → ShowsSight out₁ found (sightOf (st .start) ws)
+  sighted x ws h d l1 l2 l3 l4 =
+      let shown = v .exact (h .threads) x (h .there) (omega arith) (rw e refl) d l1 l2 l3 l4 in
+      rw (← h .first, ← e) shown
+
+  pub none-follows : found .done .mark ≡ 0 → Follows sending s channel st at from m out message None message
+  none-follows z = record {
+    exact = λ ps x ws h d l1 l2 l3 l5 l4 u.
+        let a = ahead sending x ps h u in
+        of x ws (sighted x ws a d l1 l2 l3 l4) (a .offered);
+  }
+    where
+      of : (x : Message) (ws : List Move) → ShowsSight out₁ found (sightOf (st .start) ws) → Every (Offered sending x) ws
+          → Shown (st .start) message None ws
+      of x [] w o = refl
+      of x (alone p a ∷ ws) w o = absurd (omega (arith, w .mark))
+      of x (inside p j ∷ ws) w (o also os) = absurd o
+      of x (between p t j ∷ ws) w (o also os) = absurd o
+
+pub output-follows : (s channel : List ℕ) (st : State) (at from : ℕ) (m out message : List ℕ) {q : Quest} {found : Sighting}
+    {out₁ after : List ℕ} {r : Next} → q ≡ labelledFrom true from → Seeks s channel at (st .end) m q (st .end) (st .names) out found out₁
+    → (found .done .mark ≡ 0 → ⊥) → HandsOver out₁ (found .at) (found .done) message r after
+    → Follows true s channel st at from m out message r after
+output-follows s channel st at from m out message {q} {found} {out₁} {after} {r} e v z h = record {
+  exact = λ ps x ws t d l1 l2 l3 l5 l4 u.
+      let a = ahead true x ps t u in
+      of x ws l5 (sighted true s channel st at from m out message e v x ws a d l1 l2 l3 l4) (a .offered);
+}
+  where
+    of : (x : Message) (ws : List Move) → 510 ≤ length message → ShowsSight out₁ found (sightOf (st .start) ws) → Every (Offered true x) ws
+        → Shown (st .start) after r ws
+    of x [] l w o = absurd (z w)
+    of x (alone p a ∷ ws) l w ((o, small) also os) = output-shown (st .start) p a x ws (a .prefix) w o small h l
+    of x (inside p j ∷ ws) l w (o also os) = absurd o
+    of x (between p t j ∷ ws) l w (o also os) = absurd o
+
+pub input-follows : (s channel : List ℕ) (st : State) (at from : ℕ) (m out message : List ℕ) {q : Quest} {found : Sighting}
+    {out₁ : List ℕ} → q ≡ labelledFrom false from → Seeks s channel at (st .end) m q (st .end) (st .names) out found out₁
+    → (found .done .mark ≡ 0 → ⊥)
+    → Follows false s channel st at from m out message (Found (inputStep (found .at) (found .done))) message
+input-follows s channel st at from m out message {q} {found} {out₁} e v z = record {
+  exact = λ ps x ws t d l1 l2 l3 l5 l4 u.
+      let a = ahead false x ps t u in
+      of x ws (sighted false s channel st at from m out message e v x ws a d l1 l2 l3 l4) (a .offered);
+}
+  where
+    of : (x : Message) (ws : List Move) → ShowsSight out₁ found (sightOf (st .start) ws) → Every (Offered false x) ws
+        → Shown (st .start) message (Found (inputStep (found .at) (found .done))) ws
+    of x [] w o = absurd (z w)
+    of x (alone p a ∷ ws) w ((o, small) also os) = input-shown (st .start) p a x ws message (a .prefix) w o
+    of x (inside p j ∷ ws) w (o also os) = absurd o
+    of x (between p t j ∷ ws) w (o also os) = absurd o
+
+pub ruleset follows = (none-follows, output-follows, input-follows)
+
+-- By the label of the step.
+module _ (s channel : List ℕ) (st : State) (step : Step) (m out message : List ℕ) {r : Next} {after : List ℕ} where
+  pub next-output : step .label ≡ Output → Follows true s channel st (step .sender .at) (step .sender .mark) m out message r after
+      → NextLabelled s channel st step m out message r after
+  next-output e h = record { output = λ f. h; input = λ f. absurd (let z : _≡_ {A = ℕ} 0 1 = cc in omega arith) }
+
+  pub next-input : step .label ≡ Input → Follows false s channel st (step .taker .at) (step .taker .mark) m out message r after
+      → NextLabelled s channel st step m out message r after
+  next-input e h = record { input = λ f. h; output = λ f. absurd (let z : _≡_ {A = ℕ} 0 1 = cc in omega arith) }
+
+  pub next-silent : step .label ≡ Silent → NextLabelled s channel st step m out message r after
+  next-silent e = record {
+    output = λ f. absurd (let z : _≡_ {A = ℕ} 0 1 = cc in omega arith);
+    input = λ f. absurd (let z : _≡_ {A = ℕ} 0 1 = cc in omega arith);
+  }
+
+pub ruleset nexts = (next-output, next-input, next-silent)

@@ -1,0 +1,2 @@
+// The next output or input with a label ("Steps").
+pub mod labelled;

@@ -1,0 +1,4 @@
+pub mod Encoding
+pub mod Buffer
+pub mod Run
+pub mod Theorems

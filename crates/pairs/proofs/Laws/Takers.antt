@@ -1,0 +1,187 @@
+-- The first taker of what a sender sends, in the copies of one thread ("Steps"). Assumes nothing.
+use mathlib.Core.Path.{_≡_, refl, sym, _∙_, ap}
+use mathlib.Core.Bool.{true, false, true≢false}
+use mathlib.Core.List.{List, [], _∷_, map}
+use Prim.Native.Nat.{ℕ, _+_, _-_, _≤_}
+use native.Mathlib.Omega.{arith}
+use lib.ListN.{length, take, drop}
+use borrow.Author.Tests.{ne-eqb}
+use Rattle.meaning.specs.Bytes.Standing.{Stands}
+use Rattle.meaning.specs.Places.{Every, _also_}
+use Rattle.meaning.specs.Steps.State.{worked}
+use Rattle.meaning.proofs.Every.{every-parts}
+use Rattle.nodes.specs.Encoding.{encodeMessage}
+use Rattle.nodes.proofs.Laws.Buffer.{part}
+use Rattle.states.specs.Record.{processOf, boundOf}
+use Rattle.walks.specs.News.{news}
+use Rattle.states.specs.Shown.{Found}
+use Rattle.threads.specs.declared.task.CopyAt.{CopyAt}
+use Rattle.states.specs.declared.progress.Progress.{Progress}
+use Rattle.walks.proofs.Laws.Fits.{later-fewer}
+use Rattle.positions.specs.Located.{Acting}
+use Rattle.positions.specs.Joint.{Pair, messageOf}
+use Rattle.positions.specs.Sought.{wanted, sentBy, Opened}
+use Rattle.positions.proofs.Laws.Located.{size}
+use Rattle.positions.proofs.Laws.Copies.{copies-end}
+use Rattle.moves.specs.Spot.{Spot, filter}
+use Rattle.forms.specs.Visit.{Labelled}
+use Rattle.offers.specs.Hand.{Hands}
+use Rattle.moves.specs.Moves.{inside}
+use Rattle.moves.specs.Step.{stepOf, runOf, Shown}
+use Rattle.moves.specs.CopyOffers.{copyOffers, Later, inputs, channelOf, takersAt, leftOut, butOf}
+use Rattle.pairs.specs.Meet.{ShowsFirst, Looks}
+use Rattle.moves.specs.CopyOffers.{pairsOf, senders, jointWith, moved}
+use Rattle.pairs.specs.Meet.{CopyOf, Pairs, PairsIn, copyAt}
+use Rattle.offers.specs.declared.hand.Handed.{Handed}
+use Rattle.moves.specs.declared.step.Step as code
+use Rattle.moves.specs.declared.step.Next.{Next}
+use Rattle.moves.specs.declared.step.Next.the-variants as next
+use Rattle.moves.specs.declared.step.Label.the-variants.{Silent}
+use Rattle.moves.proofs.Laws.Threads.{process-ends}
+use Rattle.moves.proofs.Laws.CopyMoves.{mode-of}
+use Rattle.forms.proofs.Laws.Visit.{news-short}
+use Rattle.pairs.proofs.Laws.Look.{opening-at}
+use Rattle.pairs.proofs.Laws.Senders.{Sender, sender-known}
+
+-- The mark that is left out.
+pub left-sender : {mode : ℕ} (mark : ℕ) → mode ≡ 1 → mark ≡ leftOut mode mark
+left-sender mark e = rw e
+
+pub left-nobody : {mode : ℕ} (mark : ℕ) → (mode ≡ 1 → ⊥) → 0 ≡ leftOut mode mark
+left-nobody {mode} mark e = rw (ne-eqb mode 1 e, leftOut)
+
+pub ruleset marks-left = (left-sender, left-nobody)
+
+-- A taker is looked for with that mark left out.
+pub taker-looked : {s label : List ℕ} {at k to : ℕ} {m : List ℕ} {y but left : ℕ} {c : CopyAt} {out : List ℕ} {r : Progress} {after : List ℕ}
+    → but ≡ left → Looks s label at k to m (inputs y but) c out r after → Looks s label at k to m (inputs y left) c out r after
+taker-looked e h = rw (← e) h
+
+-- What is known of the first of the senders.
+module _ {s out m : List ℕ} {start at k to mode copy : ℕ} (p : Spot) (w : Opened) (x : ℕ) (a : Acting) (others : List Acting)
+    (d : CopyOf s out m start at k to p mode copy w) (e : senders w x ≡ a ∷ others) where
+  known : Sender w a
+  known = sender-known w x a others e (opening-at (p .thread) (d .pre) (d .post) w (d .thread .judged) (d .listed) .free)
+
+  taker-later : Later (takersAt mode w a) w
+  taker-later =
+      let P = processOf (p .thread .thread) in
+      let few : news P ≤ 4096 = omega (arith, news-short P, process-ends (p .thread) (d .thread .recorded .standing), d .thread .short) in
+      let most = opening-at (p .thread) (d .pre) (d .post) w (d .thread .judged) (d .listed) .small in
+      record {
+        mode = d .mode-high;
+        after = λ l. known .names .later;
+        small = omega (arith, known .names .small, most, later-fewer P, d .thread .few);
+      }
+
+  pub mark-inside : a .place + 1 ≤ length s
+  mark-inside =
+      let all = copies-end (processOf (p .thread .thread)) (p .thread .place) (boundOf (p .thread .thread)) 0 k in
+      of (every-parts (d .pre) (rw (d .listed) at all) .1)
+    where
+      of : Every (λ v. v .place + 1 + size (v .copied) ≤ p .thread .place + size (processOf (p .thread .thread))) (w ∷ d .post)
+          → a .place + 1 ≤ length s
+      of (l also rest) = omega (arith, known .inner, process-ends (p .thread) (d .thread .recorded .standing))
+
+-- The takers of a sender.
+abbrev takersFrom : (mode : ℕ) → Opened → (y : ℕ) → Acting → List Acting
+takersFrom mode w y a = filter (wanted (inputs y (butOf mode a)) (channelOf a)) (copyOffers (butOf mode a) (takersAt mode w a) w)
+
+-- No taker, so no pair; or the pair with the first taker.
+none-shown : (start : ℕ) (said : List ℕ) (p : Spot) (mode : ℕ) (w : Opened) (a : Acting) (out : List ℕ) (r : Progress) (bs : List Acting)
+    → ShowsFirst out r bs → r .going ≡ true
+    → Shown start said next.None (moved p mode w (map (λ b. record { sender = a; taker = b }) bs))
+none-shown start said p mode w a out r [] h e = refl
+none-shown start said p mode w a out r (b ∷ bs) h e = absurd (true≢false (sym e ∙ h .off))
+
+first-shown : (start : ℕ) (said : List ℕ) (p : Spot) (mode : ℕ) (w : Opened) (a : Acting) (out : List ℕ) (r : Progress) (bs : List Acting)
+    (t : code.Step) → ShowsFirst out r bs → r .going ≡ false
+    → ((b : Acting) → Found out r (b .place) (b .next) (sentBy b)
+    → (t ≡ stepOf start (inside p (jointWith mode w (record { sender = a; taker = b }))))
+    × Stands said 0 (runOf (inside p (jointWith mode w (record { sender = a; taker = b }))))
+    (length (runOf (inside p (jointWith mode w (record { sender = a; taker = b }))))))
+    → Shown start said (next.Found t) (moved p mode w (map (λ b. record { sender = a; taker = b }) bs))
+first-shown start said p mode w a out r [] t h e f = absurd (true≢false (sym h ∙ e))
+first-shown start said p mode w a out r (b ∷ bs) t h e f = let (same, stands) = f b h in (ap next.Found same, stands)
+
+module _ (s : List ℕ) (at k to : ℕ) (m : List ℕ) (copy mode : ℕ) (now : Progress) (y : ℕ) (out : List ℕ) {said : List ℕ} where
+  -- The messages of the sender are handed over, and a taker is looked for.
+  module _ {channel₁ : List ℕ} {h : Handed} {r₁ : Progress} {after : List ℕ} (hands : Hands out (now .sent) h channel₁ said)
+      (looks : Looks s (take (h .channel - 0) (drop 0 channel₁)) at k to m (inputs y (leftOut mode (now .mark))) (copyAt copy mode (now .names)) out r₁
+      after) where
+    abbrev found : code.Step
+    found = record {
+      label = Silent;
+      mode = mode;
+      copy = copy;
+      sender = record { at = at; mark = now .mark; next = now .names };
+      taker = record { at = at; mark = r₁ .mark; next = r₁ .names };
+      size = h .message;
+    }
+
+    module _ (start : ℕ) (p : Spot) (w : Opened) (x : ℕ) (a : Acting) (others : List Acting) (d : CopyOf s out m start at k to p mode copy w)
+        (e : senders w x ≡ a ∷ others) (f : Found out now (a .place) (a .next) (sentBy a)) (long : 510 ≤ length channel₁)
+        (wide : 510 ≤ length said) where
+      both-handed : Stands channel₁ 0 (encodeMessage (channelOf a)) (h .channel)
+          × Stands said 0 (encodeMessage (worked (a .bound) (messageOf (a .prefix)))) (h .message)
+      both-handed =
+          let sent = known p w x a others d e .sent in
+          let there = rw (sent .messages) at (f .messages) in
+          hands .exact (channelOf a) (worked (a .bound) (messageOf (a .prefix))) there (omega (arith, sent .channel))
+          (omega (arith, sent .message))
+
+      takers-shown : ShowsFirst after r₁ (takersFrom mode w y a)
+      takers-shown =
+          let sent = known p w x a others d e .sent in
+          let same : take (h .channel - 0) (drop 0 channel₁) ≡ encodeMessage (channelOf a) = part (both-handed .0) in
+          let label : Labelled (take (h .channel - 0) (drop 0 channel₁)) (channelOf a) =
+          record { same = same; small = rw same (sent .channel); normal = sent .normal } in
+          let marked : leftOut mode (now .mark) ≡ butOf mode a = ap (leftOut mode) (f .mark) in
+          let later = taker-later p w x a others d e in
+          let shown =
+          looks .exact (p .thread) (channelOf a) (d .pre) (d .post) w (d .thread) label (d .listed) (d .meant)
+          (record { mode = later .mode; after = λ l. rw (f .next) (later .after l); small = rw (f .next) (later .small) }) in
+          rw (marked, d .meant, f .next) at shown
+
+      step-same : (b : Acting) → Found after r₁ (b .place) (b .next) (sentBy b)
+          → (found ≡ stepOf start (inside p (jointWith mode w (record { sender = a; taker = b }))))
+          × Stands said 0 (runOf (inside p (jointWith mode w (record { sender = a; taker = b }))))
+          (length (runOf (inside p (jointWith mode w (record { sender = a; taker = b })))))
+      unfolding stepOf runOf
+      step-same b g =
+          let v : Pair = record { sender = a; taker = b } in
+          let there = both-handed .1 in
+          let ends : h .message ≡ length (encodeMessage (worked (a .bound) (messageOf (a .prefix)))) = omega (arith, there .size) in (
+            rw (mode-of mode w v (d .mode-low) (d .mode-high), d .position, d .meant, f .mark, f .next, g .mark, g .next, ends),
+            rw ends at there,
+          )
+
+    module _ {channel message : List ℕ} (l : length channel₁ ≡ length channel) (n : length said ≡ length message) where
+      pub pair-none : r₁ .going ≡ true → PairsIn channel s at k to m copy mode now y out message next.None said
+      unfolding pairsOf
+      pair-none o = record {
+        exact = λ room. record {
+          exact = λ start p w x a others d e f wide.
+              let shown = takers-shown start p w x a others d e f (omega arith) (omega arith) in
+              none-shown start said p mode w a after r₁ (takersFrom mode w y a) shown o;
+        };
+      }
+
+      pub pair-found : r₁ .going ≡ false → PairsIn channel s at k to m copy mode now y out message (next.Found found) said
+      unfolding pairsOf
+      pair-found o = record {
+        exact = λ room. record {
+          exact = λ start p w x a others d e f wide.
+              let shown = takers-shown start p w x a others d e f (omega arith) (omega arith) in
+              first-shown start said p mode w a after r₁ (takersFrom mode w y a) _ shown o
+              (step-same start p w x a others d e f (omega arith) (omega arith));
+        };
+      }
+
+pub ruleset takings = (pair-none, pair-found)
+
+-- There is room for the channel.
+pub pairs-in : (channel s : List ℕ) {at k to : ℕ} {m : List ℕ} {copy mode : ℕ} {now : Progress} {y : ℕ} {out message said : List ℕ} {r : Next}
+    → PairsIn channel s at k to m copy mode now y out message r said → 510 ≤ length channel
+    → Pairs s at k to m copy mode now y out message r said
+pairs-in channel s h l = h .exact l
