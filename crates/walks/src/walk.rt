@@ -28,8 +28,6 @@ const NIL: usize = 0;
 
 const NEW: usize = 1;
 
-const OUTPUT: usize = 2;
-
 const IF: usize = 4;
 
 const LET: usize = 5;
