@@ -1,0 +1,4 @@
+pub mod Place
+pub mod Recipe
+pub mod Head
+pub mod Inner
