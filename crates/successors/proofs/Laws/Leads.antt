@@ -19,7 +19,7 @@ use Rattle.rests.specs.declared.names.Rests.{Rests}
 use Rattle.rests.specs.declared.names.Rests.the-variants.{At, OverLimit}
 
 -- A state stays where nothing is written before its end.
-pub held-kept : {s out out₁ : List ℕ} {st : code.State} {S : State} {high : ℕ} → Within (st .end) high out out₁ → Held s out st S
+unfoldable pub held-kept : {s out out₁ : List ℕ} {st : code.State} {S : State} {high : ℕ} → Within (st .end) high out out₁ → Held s out st S
     → Held s out₁ st S
 held-kept {st = st} w h =
     let bound = h .at .aliases in
