@@ -1,0 +1,9 @@
+-- The laws by which the functions meet their contracts. Assumes nothing.
+pub mod Budget
+pub mod Meets
+pub mod Arrivals
+pub mod Reached
+pub mod Turn
+pub mod Loop
+pub mod Visit
+pub mod Model

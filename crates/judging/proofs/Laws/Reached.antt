@@ -1,0 +1,52 @@
+-- A state that was formed is one that judging may go on with, and what stands before it stays ("Judging and its count"). Assumes nothing.
+use mathlib.Core.Path.{_≡_, refl, sym, subst, _∙_}
+use mathlib.Core.Bool.{Bool, true, false}
+use mathlib.Core.List.{List}
+use Prim.Native.Nat.{ℕ, _+_, _*_, _≤_}
+use native.Mathlib.Omega.{arith}
+use lib.ListN.{length}
+use Rattle.meaning.specs.Judging.Visits.{Arrival}
+use Rattle.nodes.specs.Buffer.{Within}
+use Rattle.nodes.proofs.Laws.Buffer.{one-after, wider}
+use Rattle.states.specs.declared.state.State as code
+use Rattle.forms.specs.Form.{StateAt, overArrival, Forms}
+use Rattle.forms.specs.declared.form.Formed.{Formed}
+use Rattle.forms.specs.declared.form.Formed.the-variants.{At, OverLimit}
+use Rattle.moves.specs.Held.{Held}
+use Rattle.moves.proofs.Laws.Capacity.{stateSize}
+use Rattle.successors.proofs.Laws.Leads.{held-kept}
+use Rattle.judging.specs.Reached.{Room, Here, Reached, Kept}
+
+-- What is formed from a position on ends behind it.
+abbrev pub Above : ℕ → Formed → Type 0
+Above begin (At st) = begin ≤ st .end
+Above begin OverLimit = Unit {0}
+
+module _ {s out : List ℕ} {begin : ℕ} {A : Arrival} {r : Formed} (formed : Forms s begin A r out)
+    (holds : overArrival A ≡ false → (st : code.State) → StateAt s out st (A .state) → Held s out st (A .state))
+    (steps : ℕ) (early : begin + 2976 * (steps + 1) ≤ 50592) (few : length (A .state .aliases) + steps ≤ 16) where
+  pub reached : Reached s out r A steps × Above begin r
+  reached = of (overArrival A) refl
+    where
+      of : (b : Bool) → overArrival A ≡ b → Reached s out r A steps × Above begin r
+      of true e = subst (λ (f : Formed). Reached s out f A steps × Above begin f) (sym (formed .none e)) (e, tt)
+      of false e =
+          let (st, same, at, aliases) = formed .some e in
+          let held = holds e st at in
+          let here : Here s out st A steps =
+          record { free = e; held = held; early = omega (arith, stateSize held, aliases); few = few } in
+          let above : begin ≤ st .end = omega (arith, at .aliases .stands .size, at .records .size, aliases) in
+          subst (λ (f : Formed). Reached s out f A steps × Above begin f) (sym same) (here, above)
+
+-- What is before a state stays where a later one is visited.
+pub kept-below : {out after : List ℕ} {begin : ℕ} (r : Formed) → Above begin r → begin ≤ length out → Kept r out after → Within begin (length out) out after
+kept-below (At st) above h w = wider w above (omega arith)
+kept-below OverLimit above h w = wider w h (omega arith)
+
+-- A state and its room stay.
+unfoldable pub here-kept : {s out out₁ : List ℕ} {st : code.State} {A : Arrival} {steps high : ℕ} → Within (st .end) high out out₁
+    → Here s out st A steps → Here s out₁ st A steps
+here-kept w h = record { free = h .free; held = held-kept w (h .held); early = h .early; few = h .few }
+
+pub room-kept : {s m m₁ out out₁ : List ℕ} → length m₁ ≡ length m → length out₁ ≡ length out → Room s m out → Room s m₁ out₁
+room-kept e f r = record { short = r .short; wide = omega (arith, r .wide); long = omega (arith, r .long) }

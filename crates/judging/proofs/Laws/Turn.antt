@@ -1,0 +1,291 @@
+-- One turn of a step formula: the next step, and its body judged where that leads ("Judging and its count"). Assumes nothing.
+use mathlib.Core.Path.{_≡_, refl, sym, ap, subst, _∙_}
+use mathlib.Core.Bool.{Bool, _||_}
+use mathlib.Core.List.{List, [], _∷_, _++_}
+use Prim.Native.Nat.{ℕ, _+_, _*_, _-_, _≤_, _<_}
+use native.Mathlib.Omega.{arith}
+use lib.ListN.{length, length-append}
+use Rattle.meaning.specs.Messages.Term.{Message, leaf, public, nodes}
+use Rattle.meaning.specs.Messages.Normal.{normal}
+use Rattle.meaning.specs.Bytes.Formula.{Label}
+use Rattle.meaning.specs.Bytes.Scope.{bindsLabel}
+use Rattle.meaning.specs.Places.{Every, none, _also_}
+use Rattle.meaning.specs.Steps.State.{Bound, State, worked}
+use Rattle.meaning.specs.Steps.Invariant.{Stored, BoundStored}
+use Rattle.meaning.specs.Judging.{Judgement, judge}
+use Rattle.meaning.specs.Judging.Limits.{boundNodes, threadNodes}
+use Rattle.meaning.specs.Judging.Visits.{Arrival}
+use Rattle.meaning.proofs.Messages.{normalForms}
+use Rattle.meaning.proofs.Steps.Invariant.Settling.{worked-below}
+use Rattle.nodes.specs.Buffer.{Within}
+use Rattle.nodes.specs.Encoding.{encodeMessage}
+use Rattle.nodes.proofs.Theorems.{runLength}
+use Rattle.nodes.proofs.Laws.Buffer.{one-after}
+use Rattle.terms.proofs.Theorems.{boundLength}
+use Rattle.states.specs.declared.state.State as code
+use Rattle.forms.specs.Form.{Forms}
+use Rattle.forms.specs.Visit.{Labelled}
+use Rattle.forms.specs.declared.form.Formed.{Formed}
+use Rattle.moves.specs.Moves.{Move}
+use Rattle.moves.specs.Outcome.{outcome, arrivalOf}
+use Rattle.moves.specs.Held.{Held}
+use Rattle.moves.specs.Step.{stepOf}
+use Rattle.moves.specs.Behind.{movesOf, Behind, later}
+use Rattle.moves.specs.Moving.{Leading}
+use Rattle.moves.specs.declared.step.Step as step
+use Rattle.moves.specs.declared.step.Label as step-label
+use Rattle.moves.specs.declared.step.Label.the-variants.{Input}
+use Rattle.moves.proofs.Laws.Start.{heldOn}
+use Rattle.successors.proofs.Laws.Lead.{every-move}
+use Rattle.labels.specs.Place.{FormulaAt}
+use Rattle.labels.specs.Head.{stepLabel, channelOf, takenOf}
+use Rattle.arrivals.specs.Arrive.{Taken, ArrivedAt, Arrives}
+use Rattle.arrivals.specs.declared.arrive.Arrived.{Arrived}
+use Rattle.arrivals.specs.declared.arrive.Arrived.the-variants.{By, None}
+use Rattle.arrivals.proofs.Laws.Sending.{added, Sending}
+use Rattle.arrivals.proofs.Laws.Arrive.{listed, sending}
+use Rattle.judging.specs.Judged.{judgedOf, Less}
+use Rattle.judging.specs.Reached.{Room, Here, Kept}
+use Rattle.judging.specs.Visit.{Judges}
+use Rattle.judging.specs.Steps.{Asked, movesAt, judgementsAt, toCome, Onward, TurnTo, turnOf, Counts, Turns, Falls}
+use Rattle.judging.specs.declared.judged.Judged.{Judged}
+use Rattle.judging.specs.declared.judged.Judged.the-variants.{Done, Spent}
+use Rattle.judging.specs.declared.judged.Sum.{Sum}
+use Rattle.judging.specs.declared.judged.Turn.{Turn}
+use Rattle.judging.specs.declared.judged.Turn.the-variants.{On, End}
+use Rattle.judging.proofs.Laws.Budget.{none-to-come, spent-to-come, more-to-come}
+use Rattle.judging.proofs.Laws.Reached.{Above, reached, kept-below, room-kept}
+
+-- A label adds an alias where its step does.
+added-by : (a : Label) → added (stepLabel a) ≡ bindsLabel a
+added-by (Label.output C) = refl
+added-by (Label.input C M) = refl
+added-by Label.silent = refl
+
+-- The message of an input is a stored one, and so is public name 0.
+name-stored : (n : ℕ) → Stored n (leaf (public 0))
+unfolding normal
+name-stored n = (normalForms (leaf (public 0)) .0, tt)
+
+taken-stored : (a : Label) {n : ℕ} {ρ : Bound} → BoundStored n ρ → Stored n (takenOf ρ a)
+taken-stored (Label.output C) {n} b = name-stored n
+taken-stored (Label.input C M) b = first (worked-below b M none)
+  where
+    first : {Q : Message → Type 0} {x : Message} {xs : List Message} → Every Q (x ∷ xs) → Q x
+    first (q also qs) = q
+taken-stored Label.silent {n} b = name-stored n
+
+taken-small : (a : Label) {taken : List ℕ} (ρ : Bound) → (stepLabel a ≡ Input → Labelled taken (takenOf ρ a)) → nodes (takenOf ρ a) ≤ 255
+taken-small (Label.output C) ρ f = omega arith
+taken-small (Label.input C M) ρ f = let l = f refl in omega (arith, l .small, ap length (l .same), runLength (worked ρ M))
+taken-small Label.silent ρ f = omega arith
+
+-- What is asked of the search for steps.
+module _ {s f : List ℕ} {body depth : ℕ} {st : code.State} {l : step-label.Label} {channel taken m out : List ℕ}
+    (q : Asked s f body depth st l channel taken m out) where
+  abbrev here : State
+  here = q .arrival .state
+
+  abbrev takes : Message
+  takes = takenOf (here .aliases) (q .label)
+
+  abbrev led : Move → Arrival
+  led w = arrivalOf here (outcome (q .here .held .at .placed) (here .next) takes w)
+
+  small : nodes takes ≤ 255
+  small = taken-small (q .label) (here .aliases) (λ e. q .taking (q .same ∙ e))
+
+  taking : Taken here taken l takes
+  taking = record { labelled = q .taking; stored = taken-stored (q .label) (q .here .held .stored); small = small }
+
+  leading : Leading s st here m out
+  leading =
+      let h = q .here .held in
+      record {
+        short = q .room .short;
+        wide = q .room .wide;
+        room =
+            omega (
+              arith,
+              q .here .early,
+              q .here .few,
+              q .room .long,
+              h .at .aliases .stands .size,
+              boundLength (here .aliases),
+              h .at .nodes,
+              h .light,
+            );
+        few = omega (arith, q .here .few);
+      }
+
+-- The body judged at the state that a move leads to.
+module _ {s f channel taken m m₁ out out₁ after : List ℕ} {body depth : ℕ} {st : code.State} {l : step-label.Label} {left high : ℕ} {g : Formed} {j : Judged}
+    (wm : Within 0 high m m₁) (wo : Within (st .end) (length out) out out₁)
+    (judges : Judges s f body depth g m₁ out₁ left j after) (q : Asked s f body depth st l channel taken m out) where
+  visited : (earlier others : List Move) (w : Move) → movesAt q ≡ earlier ++ (w ∷ others) → Forms s (st .end) (led q w) g out₁
+      → (j ≡ judgedOf left (judge (q .formula) (led q w))) × Within (st .end) (length out) out after
+  visited earlier others w e forms =
+      let h = q .here .held in
+      let o = outcome (h .at .placed) (here q .next) (takes q) w in
+      let channelled = channelOf (here q .aliases) (q .label) in
+      let sends = sending h l channelled (takes q) earlier others w e in
+      let held = every-move (here q .next) (h .at .placed) (heldOn s out st (here q) (takes q) h (taking q .stored) (small q)) l channelled
+      earlier others w e in
+      let alias : length (o .alias) ≡ bindsLabel (q .label) = sends .alias (h .at .placed) (here q .next) ∙ rw (q .same) (added-by (q .label)) in
+      let many : bindsLabel (q .label) + length (here q .aliases) ≡ length (here q .aliases ++ o .alias) =
+      omega (arith, length-append (here q .aliases) (o .alias)) in
+      let (there, above) = reached forms (λ free st′ at. held free out₁ st′ at) (q .steps) (q .here .early) (omega (arith, q .here .few, bound (q .label))) in
+      let stands : FormulaAt f body depth (q .steps) (length (led q w .state .aliases)) (q .formula) (q .next) =
+      subst (λ (n : ℕ). FormulaAt f body depth (q .steps) n (q .formula) (q .next)) many (q .stands) in
+      let (answer, kept) = judges .exact (q .formula) (led q w) stands there (room-kept (wm .long) (wo .long) (q .room)) in
+      let later = kept-below g above (omega (arith, wo .long, h .at .records .size, q .here .early, q .room .long)) kept in
+      (answer, one-after wo later (omega arith) (omega arith) (omega arith) (omega (arith, wo .long)))
+    where
+      bound : (a : Label) → bindsLabel a ≤ 1
+      bound (Label.output C) = omega arith
+      bound (Label.input C M) = omega arith
+      bound Label.silent = omega arith
+
+-- What a turn comes to.
+module _ {s channel taken m out out₁ : List ℕ} {st : code.State} {from : step.Step} {r : Arrived}
+    (arrives : Arrives s channel taken st from m out r out₁) (wo : Within (st .end) (length out) out out₁) where
+  found : {f : List ℕ} {body depth : ℕ} (q : Asked s f body depth st (from .label) channel taken m out) {others : List Move}
+      → Behind (from .label) (st .start) (movesAt q) from others
+      → ArrivedAt s st (here q) (q .here .held .at .placed) (takes q) r out₁ others
+  found q b =
+      arrives .exact (here q) (channelOf (here q .aliases) (q .label)) (takes q) (q .here .held) (q .channelled) (taking q) (leading q) b
+
+  pub turn-none : (f : List ℕ) (body depth : ℕ) (sum : Sum) → r ≡ None
+      → Turns s f body depth st from channel taken m out sum (End (Done (sum .truth) (sum .limited) (sum .left))) out₁
+  turn-none f body depth sum e = record { exact = λ q {others} b. (of q others (found q b), wo) }
+    where
+      of : (q : Asked s f body depth st (from .label) channel taken m out) (others : List Move)
+          → ArrivedAt s st (here q) (q .here .held .at .placed) (takes q) r out₁ others
+          → TurnTo (from .label) (st .start) (movesAt q) (judgementsAt q) (toCome sum (judgementsAt q others))
+          (End (Done (sum .truth) (sum .limited) (sum .left)))
+      of q [] a = record {
+        ends = λ j d. let same : j ≡ Done (sum .truth) (sum .limited) (sum .left) = cc in same ∙ none-to-come sum;
+        goes = λ v more d. absurd (let z : _≡_ {A = ℕ} 0 1 = cc in omega arith);
+      }
+      of q (w ∷ others) (g, a, forms) = absurd (let z : _≡_ {A = ℕ} 0 1 = cc in omega arith)
+
+  module _ {f m₁ after : List ℕ} {body depth left high : ℕ} {v : step.Step} {g : Formed} {j : Judged} (e : r ≡ By v g)
+      (wm : Within 0 high m m₁) (judges : Judges s f body depth g m₁ out₁ left j after) where
+    -- The move that was made, what the body came to, and what stays.
+    record Made (q : Asked s f body depth st (from .label) channel taken m out) (others : List Move) : Type 0 where
+      move : Move
+      behind : List Move
+      same : others ≡ move ∷ behind
+      is : v ≡ stepOf (st .start) move
+      label : v .label ≡ from .label
+      after-it : Behind (from .label) (st .start) (movesAt q) v behind
+      answer : j ≡ judgedOf left (judge (q .formula) (led q move))
+      kept : Within (st .end) (length out) out after
+
+    made : (q : Asked s f body depth st (from .label) channel taken m out) {others : List Move}
+        → Behind (from .label) (st .start) (movesAt q) from others → Made q others
+    made q {others} b = of others b (found q b)
+      where
+        of : (others : List Move) → Behind (from .label) (st .start) (movesAt q) from others
+            → ArrivedAt s st (here q) (q .here .held .at .placed) (takes q) r out₁ others → Made q others
+        of [] b a = absurd (let z : _≡_ {A = ℕ} 0 1 = cc in omega arith)
+        of (w ∷ others) b (g′, a, forms) =
+            let is : v ≡ stepOf (st .start) w = cc in
+            let state : g′ ≡ g = cc in
+            let (earlier, there) = listed b in
+            let sends = sending (q .here .held) (from .label) (channelOf (here q .aliases) (q .label)) (takes q) earlier others w there in
+            let (answer, kept) = visited wm wo judges q earlier others w there (rw state at forms) in
+            record {
+              move = w;
+              behind = others;
+              same = refl;
+              is = is;
+              label = ap (λ u. u .label) is ∙ sends .label;
+              after-it =
+                  subst (λ (u : step.Step). Behind (from .label) (st .start) (movesAt q) u others) (sym is) (later earlier w there);
+              answer = answer;
+              kept = kept;
+            }
+
+  module _ {f m₁ after : List ℕ} {body depth high : ℕ} {sum : Sum} {v : step.Step} {g : Formed} (e : r ≡ By v g) (wm : Within 0 high m m₁) where
+    spent : Judges s f body depth g m₁ out₁ (sum .left) Spent after → Turns s f body depth st from channel taken m out sum (End Spent) after
+    spent judges = record {
+      exact = λ q b.
+          let w = made e wm judges q b in
+          let total = spent-to-come sum _ (judgementsAt q (w .behind)) (w .answer) refl in (
+            record {
+              ends = λ k x. let same : k ≡ Spent = cc in same ∙ total ∙ ap (λ ws. toCome sum (judgementsAt q ws)) (sym (w .same));
+              goes = λ u more x. absurd (let z : _≡_ {A = ℕ} 0 1 = cc in omega arith);
+            },
+            w .kept,
+          );
+    }
+
+    goes-on : {n : ℕ} {t l : Bool} → Judges s f body depth g m₁ out₁ (sum .left) (Done t l n) after
+        → Turns s f body depth st from channel taken m out sum (turnOf v sum (Done t l n)) after
+    goes-on {n} {t} {l} judges = record {
+      exact = λ q c.
+          let w = made e wm judges q c in
+          let more = more-to-come sum _ (judgementsAt q (w .behind)) (w .answer) refl refl refl in
+          let now : Sum = record { truth = sum .truth || t; limited = sum .limited || l; left = n } in (
+            record {
+              ends = λ k x. absurd (let z : _≡_ {A = ℕ} 0 1 = cc in omega arith);
+              goes = λ u sum′ x.
+                  let found-it : v ≡ u = cc in
+                  let sums : now ≡ sum′ = cc in
+                  record {
+                    label = rw found-it at (w .label);
+                    others = w .behind;
+                    behind = subst (λ (u : step.Step). Behind (from .label) (st .start) (movesAt q) u (w .behind)) found-it (w .after-it);
+                    same =
+                        ap (λ y. toCome y (judgementsAt q (w .behind))) (sym sums) ∙ more
+                        ∙ ap (λ ws. toCome sum (judgementsAt q ws)) (sym (w .same));
+                  };
+            },
+            w .kept,
+          );
+    }
+
+    pub turn-by : {t : Turn} → Counts s f body depth v g m₁ out₁ sum t after → Turns s f body depth st from channel taken m out sum t after
+    turn-by {t} c = rw (c .answer) (of (c .judged) (c .judges))
+      where
+        of : (j : Judged) → Judges s f body depth g m₁ out₁ (sum .left) j after
+            → Turns s f body depth st from channel taken m out sum (turnOf v sum j) after
+        of (Done t l n) judges = goes-on judges
+        of Spent judges = spent judges
+
+-- The body judged there.
+module _ {s f m out after : List ℕ} {body depth : ℕ} {g : Formed} {sum : Sum} {j : Judged} (judges : Judges s f body depth g m out (sum .left) j after)
+    (v : step.Step) where
+  pub counts-done : {n : ℕ} {t l a b : Bool} → j ≡ Done t l n → a ≡ (sum .truth || t) → b ≡ (sum .limited || l)
+      → Counts s f body depth v g m out sum (On v (record { truth = a; limited = b; left = n })) after
+  counts-done e p q = record { judged = j; judges = judges; answer = rw (p, q, e) }
+
+  pub counts-spent : j ≡ Spent → Counts s f body depth v g m out sum (End Spent) after
+  counts-spent e = record { judged = j; judges = judges; answer = rw e }
+
+pub ruleset countings = (counts-done, counts-spent)
+
+-- In any case a visit is taken off the budget.
+pub falls-none : (left : ℕ) {t l : Bool} → Falls left (End (Done t l left))
+falls-none left = record {
+  goes = λ v sum e. absurd (let z : _≡_ {A = ℕ} 0 1 = cc in omega arith);
+  ends = λ t l n e. let same : left ≡ n = cc in omega arith;
+}
+
+pub falls-spent : (left : ℕ) → Falls left (End Spent)
+falls-spent left = record {
+  goes = λ v sum e. absurd (let z : _≡_ {A = ℕ} 0 1 = cc in omega arith);
+  ends = λ t l n e. absurd (let z : _≡_ {A = ℕ} 0 1 = cc in omega arith);
+}
+
+pub falls-on : {left n : ℕ} {t l a b : Bool} {j : Judged} (v : step.Step) → Less left j → j ≡ Done t l n
+    → Falls left (On v (record { truth = a; limited = b; left = n }))
+falls-on {left} {n} {t} {l} v less d = record {
+  goes = λ u sum e. let same : n ≡ sum .left = cc in omega (arith, less .there t l n d);
+  ends = λ t l n e. absurd (let z : _≡_ {A = ℕ} 0 1 = cc in omega arith);
+}
+
+pub ruleset turning = (turn-none, turn-by)
+
+pub ruleset falling = (falls-none, falls-spent, falls-on)

@@ -1,0 +1,294 @@
+-- The functions of judging meet their contracts. Formula nodes left on the path fall, eight calls to a node; the steps of a formula are
+-- a loop, in which what is left of the budget falls. Assumes nothing.
+use Prim.Native.Nat.{ℕ, _+_, _*_, _<_, _≤_}
+use mathlib.Core.List.{List}
+use mathlib.Core.Path.{_≡_}
+use borrow.Author.Needs.{needs}
+use borrow.Fn.Kinds.{In, PK}
+use borrow.Fn.PlainCycle.{Measures, is, falls, and}
+use Rattle.judging.proofs.judge.conjunction.Reads as conjunction
+use Rattle.judging.proofs.judge.conjunction.Kinds as conjunction-kinds
+use Rattle.judging.proofs.judge.+conjunction+count+judge+negation+node+second+step+steps+turn+visit.Lts-conjunction as conjunction-lts
+use Rattle.judging.proofs.judge.count.Reads as count
+use Rattle.judging.proofs.judge.count.Kinds as count-kinds
+use Rattle.judging.proofs.judge.+conjunction+count+judge+negation+node+second+step+steps+turn+visit.Lts-count as count-lts
+use Rattle.judging.proofs.judge.judge.Reads as judge
+use Rattle.judging.proofs.judge.judge.Kinds as judge-kinds
+use Rattle.judging.proofs.judge.+conjunction+count+judge+negation+node+second+step+steps+turn+visit.Lts-judge as judge-lts
+use Rattle.judging.proofs.judge.negation.Reads as negation
+use Rattle.judging.proofs.judge.negation.Kinds as negation-kinds
+use Rattle.judging.proofs.judge.+conjunction+count+judge+negation+node+second+step+steps+turn+visit.Lts-negation as negation-lts
+use Rattle.judging.proofs.judge.node.Reads as node
+use Rattle.judging.proofs.judge.node.Kinds as node-kinds
+use Rattle.judging.proofs.judge.+conjunction+count+judge+negation+node+second+step+steps+turn+visit.Lts-node as node-lts
+use Rattle.judging.proofs.judge.second.Reads as second
+use Rattle.judging.proofs.judge.second.Kinds as second-kinds
+use Rattle.judging.proofs.judge.+conjunction+count+judge+negation+node+second+step+steps+turn+visit.Lts-second as second-lts
+use Rattle.judging.proofs.judge.step.Reads as step
+use Rattle.judging.proofs.judge.step.Kinds as step-kinds
+use Rattle.judging.proofs.judge.+conjunction+count+judge+negation+node+second+step+steps+turn+visit.Lts-step as step-lts
+use Rattle.judging.proofs.judge.steps.Reads as steps
+use Rattle.judging.proofs.judge.steps.Kinds as steps-kinds
+use Rattle.judging.proofs.judge.+conjunction+count+judge+negation+node+second+step+steps+turn+visit.Lts-steps as steps-lts
+use Rattle.judging.proofs.judge.turn.Reads as turn
+use Rattle.judging.proofs.judge.turn.Kinds as turn-kinds
+use Rattle.judging.proofs.judge.+conjunction+count+judge+negation+node+second+step+steps+turn+visit.Lts-turn as turn-lts
+use Rattle.judging.proofs.judge.visit.Reads as visit
+use Rattle.judging.proofs.judge.visit.Kinds as visit-kinds
+use Rattle.judging.proofs.judge.+conjunction+count+judge+negation+node+second+step+steps+turn+visit.Lts-visit as visit-lts
+use Rattle.arrivals.proofs.arrive.next.Reads as next-reads
+use Rattle.judging.proofs.judge.equality.Reads as equality-reads
+use Rattle.judging.proofs.judged.both.Reads as both-reads
+use Rattle.judging.proofs.judged.either.Reads as either-reads
+use Rattle.labels.proofs.head.work.Reads as work-reads
+use Rattle.layouts.proofs.ends.formula.Reads as formula-reads
+use Rattle.nodes.proofs.node.wide.Reads as wide-reads
+use Rattle.steps.proofs.next.before.Reads as before-reads
+use Rattle.judging.proofs.judge.+conjunction+count+judge+negation+node+second+step+steps+turn+visit.{statement}
+use Rattle.judging.proofs.judge.+conjunction+count+judge+negation+node+second+step+steps+turn+visit.Tie.{close}
+use Rattle.judging.proofs.Laws.Visit.{judgings, visitings, kinds, sides, lessening}
+use Rattle.judging.proofs.Laws.Turn.{turning, countings, falling}
+use Rattle.judging.proofs.Laws.Loop.{Looping, looping-falls, loopings, steppings, shortness}
+
+abbrev μ-conjunction : Measures 4 conjunction-kinds.ps ℕ
+μ-conjunction κs a = 8 * a .1 .1 .1 .0 + 9
+
+abbrev μ-count : Measures 4 count-kinds.ps ℕ
+μ-count κs a = 8 * a .1 .1 .1 .0 + 8
+
+abbrev μ-judge : Measures 4 judge-kinds.ps ℕ
+μ-judge κs a = 8 * a .1 .1 .1 .0 + 7
+
+abbrev μ-negation : Measures 4 negation-kinds.ps ℕ
+μ-negation κs a = 8 * a .1 .1 .1 .0 + 8
+
+abbrev μ-node : Measures 4 node-kinds.ps ℕ
+μ-node κs a = 8 * a .1 .1 .1 .0 + 13
+
+abbrev μ-second : Measures 4 second-kinds.ps ℕ
+μ-second κs a = 8 * a .1 .1 .1 .0 + 8
+
+abbrev μ-step : Measures 4 step-kinds.ps ℕ
+μ-step κs a = 8 * a .1 .1 .1 .1 .0 + 11
+
+abbrev μ-steps : Measures 6 steps-kinds.ps ℕ
+μ-steps κs a = 8 * a .1 .1 .1 .0 + 10
+
+abbrev μ-turn : Measures 6 turn-kinds.ps ℕ
+μ-turn κs a = 8 * a .1 .1 .1 .0 + 9
+
+abbrev μ-visit : Measures 4 visit-kinds.ps ℕ
+μ-visit κs a = 8 * a .1 .1 .1 .0 + 6
+
+-- The measure is t, or below t, and what the function requires holds.
+abbrev at : (n : ℕ) (ps : List (PK n)) → Measures n ps ℕ → In n ps → ℕ → In n ps
+at n ps μ pre t = and n ps (is n ps μ t) pre
+
+abbrev below : (n : ℕ) (ps : List (PK n)) → Measures n ps ℕ → In n ps → ℕ → In n ps
+below n ps μ pre t = and n ps (falls n ps _<_ μ t) pre
+
+abbrev steps-Inv-loop : steps-lts.InvT-loop
+steps-Inv-loop s f depth state channel taken m₀ out₀ left from₀ sum₀ body m out from sum =
+    Looping s f body depth state (from₀ .label) channel taken m₀ out₀ left m out from sum
+
+abbrev steps-μ-loop : steps-lts.MeasureT-loop
+steps-μ-loop s f depth state channel taken m₀ out₀ left from₀ sum₀ body m out from sum = sum .left
+
+pub +conjunction+count+judge+negation+node+second+step+steps+turn+visit-spec : {M : Type 1} → statement M
++conjunction+count+judge+negation+node+second+step+steps+turn+visit-spec =
+    close
+    μ-conjunction
+    μ-count
+    μ-judge
+    μ-negation
+    μ-node
+    μ-second
+    μ-step
+    μ-steps
+    μ-turn
+    μ-visit
+    (λ t. conjunction-lts.spec (
+      below 4 judge-kinds.ps μ-judge judge.Pre t,
+      judge.Post,
+      formula-reads.Asked,
+      formula-reads.Learnt,
+      below 4 second-kinds.ps μ-second second.Pre t,
+      second.Post,
+    )
+    (at 4 conjunction-kinds.ps μ-conjunction conjunction.Pre t)
+    conjunction.Post
+    (λ c κs. search needs)
+    (λ c. search needs)
+    (λ c κs. search needs)
+    (λ c κs. search needs)
+    (λ c. search needs)
+    (λ c. search needs)
+    (λ c. search needs)
+    (λ c. (search needs, (search needs, (search (needs, lessening), search (needs, sides)))))
+    (λ c. search needs)
+    (λ c. search needs)
+    (λ c. (search needs, (search needs, (search (needs, lessening), search (needs, sides))))))
+    (λ t. count-lts.spec
+    (below 4 judge-kinds.ps μ-judge judge.Pre t, judge.Post, either-reads.Asked, either-reads.Learnt)
+    (at 4 count-kinds.ps μ-count count.Pre t)
+    count.Post
+    (λ c κs. search needs)
+    (λ c. search needs)
+    (λ c κs. search needs)
+    (λ c κs. search needs)
+    (λ c. search needs)
+    (λ c. search needs)
+    (λ c. search needs)
+    (λ c. (search needs, (search needs, (search (needs, falling), search (needs, countings)))))
+    (λ c. search needs)
+    (λ c. search needs)
+    (λ c. (search needs, (search needs, (search (needs, falling), search (needs, countings))))))
+    (λ t. judge-lts.spec
+    (below 4 visit-kinds.ps μ-visit visit.Pre t, visit.Post)
+    (at 4 judge-kinds.ps μ-judge judge.Pre t)
+    judge.Post
+    (λ c. (search needs, (search needs, (search (needs, lessening), search (needs, judgings)))))
+    (λ c. search needs)
+    (λ c. search needs)
+    (λ c κs. search needs)
+    (λ c. search needs)
+    (λ c. search needs)
+    (λ c. search needs)
+    (λ c. search needs)
+    (λ c. (search needs, (search needs, (search (needs, lessening), search (needs, judgings)))))
+    (λ c. (search needs, (search needs, (search (needs, lessening), search (needs, judgings))))))
+    (λ t. negation-lts.spec
+    (below 4 judge-kinds.ps μ-judge judge.Pre t, judge.Post)
+    (at 4 negation-kinds.ps μ-negation negation.Pre t)
+    negation.Post
+    (λ c κs. search needs)
+    (λ c. search needs)
+    (λ c. search needs)
+    (λ c. search needs)
+    (λ c. search needs)
+    (λ c. (search needs, (search needs, (search (needs, lessening), search (needs, sides)))))
+    (λ c. search needs)
+    (λ c. search needs)
+    (λ c. (search needs, (search needs, (search (needs, lessening), search (needs, sides))))))
+    (λ t. node-lts.spec (
+      wide-reads.Asked,
+      wide-reads.Learnt,
+      equality-reads.Asked,
+      equality-reads.Learnt,
+      below 4 negation-kinds.ps μ-negation negation.Pre t,
+      negation.Post,
+      below 4 conjunction-kinds.ps μ-conjunction conjunction.Pre t,
+      conjunction.Post,
+      below 4 step-kinds.ps μ-step step.Pre t,
+      step.Post,
+    )
+    (at 4 node-kinds.ps μ-node node.Pre t)
+    node.Post
+    (λ c. search needs)
+    (λ c κs. search needs)
+    (λ c. search needs)
+    (λ c κs. search needs)
+    (λ c. search needs)
+    (λ c. (search needs, (search needs, (search needs, search (needs, kinds)))))
+    (λ c. search needs)
+    (λ c κs. search needs)
+    (λ c. search needs)
+    (λ c. search needs)
+    (λ c. (search needs, (search needs, (search needs, search (needs, kinds)))))
+    (λ c. search needs)
+    (λ c κs. search needs)
+    (λ c. search needs)
+    (λ c. search needs)
+    (λ c. (search needs, (search needs, (search needs, search (needs, kinds)))))
+    (λ c. search needs)
+    (λ c κs. search needs)
+    (λ c. search needs)
+    (λ c. search needs)
+    (λ c. (search needs, (search needs, (search needs, search (needs, kinds))))))
+    (λ t. second-lts.spec (
+      below 4 judge-kinds.ps μ-judge judge.Pre t,
+      judge.Post,
+      both-reads.Asked,
+      both-reads.Learnt,
+      either-reads.Asked,
+      either-reads.Learnt,
+    )
+    (at 4 second-kinds.ps μ-second second.Pre t)
+    second.Post
+    (λ c κs. search needs)
+    (λ c. search needs)
+    (λ c κs. search needs)
+    (λ c κs. search needs)
+    (λ c. search needs)
+    (λ c. search needs)
+    (λ c. search needs)
+    (λ c. (search needs, (search needs, (search (needs, lessening), search (needs, sides)))))
+    (λ c. search needs)
+    (λ c. search needs)
+    (λ c. (search needs, (search needs, (search (needs, lessening), search (needs, sides))))))
+    (λ t. step-lts.spec
+    (work-reads.Asked, work-reads.Learnt, below 6 steps-kinds.ps μ-steps steps.Pre t, steps.Post)
+    (at 4 step-kinds.ps μ-step step.Pre t)
+    step.Post
+    (λ c. search needs)
+    (λ c. search needs)
+    (λ c κs. search needs)
+    (λ c. search needs)
+    (λ c. search needs)
+    (λ c. search (needs, shortness))
+    (λ c. search (needs, shortness))
+    (λ c. search needs)
+    (λ c. search (needs, shortness))
+    (λ c. search (needs, shortness))
+    (λ c κs. search needs)
+    (λ c. search needs)
+    (λ c. search needs)
+    (λ c. search needs)
+    (λ c. (search needs, (search needs, (search (needs, lessening), search (needs, steppings)))))
+    (λ c. search needs)
+    (λ c. (search needs, (search needs, (search (needs, lessening), search (needs, steppings))))))
+    (λ t. steps-lts.spec
+    (before-reads.Asked, before-reads.Learnt, below 6 turn-kinds.ps μ-turn turn.Pre t, turn.Post)
+    (at 6 steps-kinds.ps μ-steps steps.Pre t)
+    steps.Post
+    steps-Inv-loop
+    steps-μ-loop
+    (λ c κs. search needs)
+    (λ c. search (needs, loopings))
+    (λ c κs. search needs)
+    (λ c. search needs)
+    (λ c. search (needs, looping-falls))
+    (λ c. search (needs, loopings))
+    (λ c. search needs)
+    (λ c. search needs)
+    (λ c. search needs)
+    (λ c. (search needs, (search needs, (search (needs, loopings), search (needs, loopings))))))
+    (λ t. turn-lts.spec
+    (next-reads.Asked, next-reads.Learnt, below 4 count-kinds.ps μ-count count.Pre t, count.Post)
+    (at 6 turn-kinds.ps μ-turn turn.Pre t)
+    turn.Post
+    (λ c κs. search needs)
+    (λ c. search needs)
+    (λ c κs. search needs)
+    (λ c. search needs)
+    (λ c. search needs)
+    (λ c. search needs)
+    (λ c. (search needs, (search needs, (search (needs, falling), search (needs, turning)))))
+    (λ c. search needs)
+    (λ c. search needs)
+    (λ c. (search needs, (search needs, (search (needs, falling), search (needs, turning))))))
+    λ t. visit-lts.spec
+    (below 4 node-kinds.ps μ-node node.Pre t, node.Post)
+    (at 4 visit-kinds.ps μ-visit visit.Pre t)
+    visit.Post
+    (λ c. (search needs, (search needs, (search (needs, lessening), search (needs, visitings)))))
+    (λ c. (search needs, (search needs, (search (needs, lessening), search (needs, visitings)))))
+    (λ c. (search needs, (search needs, (search (needs, lessening), search (needs, visitings)))))
+    (λ c. (search needs, (search needs, (search (needs, lessening), search (needs, visitings)))))
+    (λ c. (search needs, (search needs, (search (needs, lessening), search (needs, visitings)))))
+    (λ c. (search needs, (search needs, (search (needs, lessening), search (needs, visitings)))))
+    (λ c. search needs)
+    (λ c κs. search needs)
+    (λ c. search needs)
+    (λ c. search needs)
+    (λ c. (search needs, (search needs, (search (needs, lessening), search (needs, visitings)))))

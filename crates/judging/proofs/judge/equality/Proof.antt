@@ -1,0 +1,15 @@
+-- `judging::judge::equality` meets its contract. Assumes nothing.
+use borrow.Author.Needs.{needs}
+use Rattle.judging.proofs.Laws.Visit.{equatings, lessening}
+use Rattle.judging.proofs.judge.equality.Statement.{statement}
+use Rattle.judging.proofs.judge.equality.Tie as tie
+
+pub equality-spec : {M : Type 1} → statement M
+equality-spec = tie.close (tie.spec
+    (λ c κs. search needs)
+    (λ c. search needs)
+    (λ c. search needs)
+    (λ c. search needs)
+    (λ c. (search needs, (search (needs, lessening), search (needs, equatings))))
+    (λ c. search needs)
+    (λ c. (search needs, (search (needs, lessening), search (needs, equatings)))))

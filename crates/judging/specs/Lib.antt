@@ -1,0 +1,5 @@
+pub mod Judged
+pub mod Reached
+pub mod Visit
+pub mod Steps
+pub mod Model

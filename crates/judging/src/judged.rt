@@ -1,0 +1,42 @@
+// What judging comes to ("Judging and its count").
+use moves::step::Step;
+ghost use mathlib.Core.Path.{_≡_};
+ghost use mathlib.Core.Bool.{_&&_, _||_};
+
+// Whether the formula is true, whether a visit met a limit, and what is left of the budget; or the visits are more than the budget.
+pub enum Judged {
+    Done(bool, bool, u32),
+    Spent,
+}
+
+// What the steps of a formula have come to so far.
+pub(crate) struct Sum {
+    pub truth: bool,
+    pub limited: bool,
+    pub left: u32,
+}
+
+// A further step, with what the steps have come to; or the end of them.
+pub(crate) enum Turn {
+    On(Step, Sum),
+    End(Judged),
+}
+
+// Whether both hold, and whether one does.
+pub(crate) fn both(a: bool, b: bool) -> bool
+    ensures { λ r. ⌜ r ≡ (a && b) ⌝ }
+{
+    if a {
+        return b;
+    }
+    false
+}
+
+pub(crate) fn either(a: bool, b: bool) -> bool
+    ensures { λ r. ⌜ r ≡ (a || b) ⌝ }
+{
+    if a {
+        return true;
+    }
+    b
+}

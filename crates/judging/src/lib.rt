@@ -1,0 +1,4 @@
+// Judging: a formula at a state, without short cuts, and of a model ("Judging and its count").
+mod judge;
+pub mod judged;
+pub mod model;
