@@ -48,7 +48,7 @@ formulasExact s bytes a e =
     exact s _ _ (readFormula s) (λ F. (formulasRead s F .0, formulasRead s F .1 bytes)) (formulasRefused s) a e
 
 -- A slice of the code has bytes for its entries, so answers on it are exact.
-bytes-of : (s : List ℕ) → ((i : ℕ) → Fits w8 (getD s i 0)) → Bytes s
+pub bytes-of : (s : List ℕ) → ((i : ℕ) → Fits w8 (getD s i 0)) → Bytes s
 bytes-of [] h = tt
 bytes-of (b ∷ s) h = (h 0 .fits, bytes-of s (λ i. h (suc i)))
 

@@ -1,0 +1,11 @@
+-- `gubzsenil::input::buffer` meets its contract. Assumes nothing.
+use borrow.Author.Needs.{needs}
+use Rattle.gubzsenil.proofs.Laws.Input.{inputs}
+use Rattle.gubzsenil.proofs.input.buffer.Statement.{statement}
+use Rattle.gubzsenil.proofs.input.buffer.Tie as tie
+
+pub buffer-spec : {M : Type 1} → statement M
+buffer-spec = tie.close (tie.spec
+    (λ c κs. search needs)
+    (λ c. search (needs, inputs))
+    (λ c. search (needs, inputs)))

@@ -1,0 +1,20 @@
+-- `gubzsenil::input::read` meets its contract: the buffer first, and then the slices in their order. Assumes nothing.
+use borrow.Author.Needs.{needs}
+use Rattle.gubzsenil.proofs.Laws.Place.{placed}
+use Rattle.gubzsenil.proofs.Laws.Input.{ordered}
+use Rattle.gubzsenil.proofs.input.read.Statement.{statement}
+use Rattle.gubzsenil.proofs.input.read.Tie as tie
+
+pub read-spec : {M : Type 1} → statement M
+read-spec = tie.close (tie.spec
+    (λ c κs. search needs)
+    (λ c κs. search (needs, placed))
+    (λ c κs. search needs)
+    (λ c κs. search (needs, placed))
+    (λ c κs. search needs)
+    (λ c κs. search (needs, placed))
+    (λ c κs. search needs)
+    (λ c κs. search needs)
+    (λ c κs. search needs)
+    (λ c κs. search needs)
+    (λ c. ordered _ _ _ _ (cc)))

@@ -1,0 +1,11 @@
+-- `gubzsenil::models::judge` meets its contract. Assumes nothing.
+use borrow.Author.Needs.{needs}
+use Rattle.gubzsenil.proofs.models.judge.Statement.{statement}
+use Rattle.gubzsenil.proofs.models.judge.Tie as tie
+
+pub judge-spec : {M : Type 1} → statement M
+judge-spec = tie.close (tie.spec
+    (λ c κs. search needs)
+    (λ c κs. search needs)
+    (λ c. search needs)
+    (λ c. (cc, search needs)))

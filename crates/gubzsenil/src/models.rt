@@ -1,0 +1,71 @@
+// Both models judged ("Turned back for the state").
+use crate::answer;
+use crate::answer::Answer;
+use crate::clear::clear;
+use judging::judged::Judged;
+use judging::model;
+ghost use mathlib.Core.Path.{_≡_};
+ghost use mathlib.Core.Bool.{false};
+ghost use Prim.Native.Nat.{_≤_, _-_};
+ghost use lib.ListN.{length, replicate};
+ghost use Rattle.meaning.specs.Verdict.{ranked};
+ghost use Rattle.gubzsenil.specs.Answer.{numbers};
+ghost use Rattle.gubzsenil.specs.Models.{JudgesBoth};
+
+// How many bytes a judging may need for the messages that are bound on the way.
+const BOUND: usize = 10750;
+
+// The count is what was taken of the budget. In their order: some visit met a limit, false of the first model, true of both; or accepted.
+fn within(budget: u32, left: u32, limited: bool, first: bool, second: bool) -> Answer
+    requires { ⌜ left ≤ budget ⌝ }
+    ensures { λ r. ⌜ numbers r ≡ ranked false limited first second (budget - left) budget ⌝ }
+{
+    let count = budget - left;
+    if limited {
+        return answer::outcome(11, count);
+    }
+    if !first {
+        return answer::outcome(12, count);
+    }
+    if second {
+        return answer::outcome(13, count);
+    }
+    answer::outcome(0, count)
+}
+
+// The formula judged of each model, the second with what the first leaves of the budget.
+fn both(first: &[u8], second: &[u8], formula: &[u8], out: &mut [u8], budget: u32) -> Answer
+    requires { ⌜ (length (now first) ≤ 4096) × (length (now second) ≤ 4096) × (65536 ≤ length (now out)) ⌝ }
+    ensures { λ _. ⌜ length (now (out .exit)) ≡ length (now (out .entry)) ⌝ }
+    ensures { λ r. ⌜ JudgesBoth (now (first .entry)) (now (second .entry)) (now (formula .entry)) budget r ⌝ }
+{
+    let mut m = [0u8; BOUND];
+    match model::judge(first, formula, &mut m, out, budget) {
+        Judged::Done(truth, limited, left) => {
+            match model::judge(second, formula, &mut m, out, left) {
+                Judged::Done(other, more, rest) => {
+                    within(budget, rest, limited | more, truth, other)
+                }
+                Judged::Spent => answer::outcome(10, budget),
+            }
+        }
+        Judged::Spent => answer::outcome(10, budget),
+    }
+}
+
+// Both models judged in the work bytes, which are then cleared.
+pub(crate) fn judge(
+    first: &[u8],
+    second: &[u8],
+    formula: &[u8],
+    work: &mut [u8],
+    budget: u32,
+) -> Answer
+    requires { ⌜ (length (now first) ≤ 4096) × (length (now second) ≤ 4096) × (65536 ≤ length (now work)) ⌝ }
+    ensures { λ _. ⌜ now (work .exit) ≡ replicate (length (now (work .entry))) 0 ⌝ }
+    ensures { λ r. ⌜ JudgesBoth (now (first .entry)) (now (second .entry)) (now (formula .entry)) budget r ⌝ }
+{
+    let given = both(first, second, formula, work, budget);
+    clear(work);
+    given
+}
