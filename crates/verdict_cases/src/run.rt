@@ -1,0 +1,76 @@
+// One case: the verdict, with work bytes that are 165 before it.
+use crate::tell;
+use crate::text;
+ghost use Prim.Native.Nat.{_≤_};
+
+// The bytes that there are to lend, and how many of them the verdict uses.
+const WORK: usize = 65600;
+
+const USED: usize = 65536;
+
+// What each work byte is before a verdict.
+const FILL: u8 = 165;
+
+// The text says how many bytes are lent and, behind a `b`, the budget.
+pub(crate) fn run(text: &[u8], first: &[u8], second: &[u8], formula: &[u8]) {
+    let mut work = [FILL; WORK];
+    let middle = text::find(text, 0, b'b');
+    let lent = lendable(text::number(&text[0..middle]));
+    let budget = budget_of(text::number(&text[middle..]));
+    let answer = gubzsenil::gubzsenil_verdict(first, second, formula, &mut work[0..lent], budget);
+    tell::numbers(answer);
+    tell::work(became(&work));
+}
+
+// So many work bytes, or all.
+fn lendable(n: usize) -> usize
+    ensures { λ r. ⌜ r ≤ 65600 ⌝ }
+{
+    if WORK < n {
+        return WORK;
+    }
+    n
+}
+
+fn budget_of(n: usize) -> u32 {
+    if 4294967295 < n {
+        return 4294967295;
+    }
+    n as u32
+}
+
+// What a verdict leaves of the work bytes.
+pub(crate) enum Fate {
+    Untouched,
+    Cleared,
+    Spoilt,
+}
+
+// What became of the bytes that the verdict uses and of the rest.
+fn became(work: &[u8; WORK]) -> Fate {
+    let whole = &work[..];
+    let used = &whole[0..USED];
+    let rest = &whole[USED..];
+    if !all(rest, FILL) {
+        return Fate::Spoilt;
+    }
+    if all(used, FILL) {
+        return Fate::Untouched;
+    }
+    if all(used, 0) {
+        return Fate::Cleared;
+    }
+    Fate::Spoilt
+}
+
+// Whether every byte is b.
+fn all(bytes: &[u8], b: u8) -> bool {
+    let mut i = 0;
+    while i < bytes.len() {
+        if bytes[i] != b {
+            return false;
+        }
+        i += 1;
+    }
+    true
+}

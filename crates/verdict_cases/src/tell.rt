@@ -1,0 +1,29 @@
+// Writes an answer behind its line.
+use crate::run::Fate;
+use gubzsenil::answer::Answer;
+use libc::STDOUT_FILENO;
+
+pub(crate) fn numbers(a: Answer) {
+    io::write_all(STDOUT_FILENO, b" :");
+    number(a.result);
+    number(a.slice);
+    number(a.place);
+    number(a.count);
+}
+
+fn number(n: u32) {
+    io::write_all(STDOUT_FILENO, b" ");
+    io::print_decimal(STDOUT_FILENO, n as u64);
+}
+
+pub(crate) fn work(fate: Fate) {
+    match fate {
+        Fate::Untouched => word(b" untouched"),
+        Fate::Cleared => word(b" cleared"),
+        Fate::Spoilt => word(b" spoilt"),
+    }
+}
+
+fn word(text: &[u8]) {
+    io::write_all(STDOUT_FILENO, text);
+}
