@@ -1,9 +1,11 @@
 -- The laws by which the functions meet their contracts. Assumes nothing.
 pub mod Budget
+pub mod Less
 pub mod Meets
 pub mod Arrivals
 pub mod Reached
 pub mod Turn
 pub mod Loop
+pub mod Step
 pub mod Visit
 pub mod Model

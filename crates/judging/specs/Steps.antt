@@ -8,9 +8,9 @@ use Rattle.meaning.specs.Messages.Term.{Message}
 use Rattle.meaning.specs.Bytes.Formula.{Label, Formula}
 use Rattle.meaning.specs.Bytes.Scope.{bindsLabel}
 use Rattle.meaning.specs.Steps.State.{State}
-use Rattle.meaning.specs.Judging.{Judgement, visit, someOf, judge}
+use Rattle.meaning.specs.Judging.{Judgement, someOf, judge}
 use Rattle.meaning.specs.Judging.Limits.{overLabel}
-use Rattle.meaning.specs.Judging.Visits.{Arrival, arrivals}
+use Rattle.meaning.specs.Judging.Visits.{Arrival}
 use Rattle.nodes.specs.Buffer.{Within}
 use Rattle.states.specs.Record.{Placed}
 use Rattle.states.specs.declared.state.State as code

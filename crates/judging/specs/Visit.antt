@@ -1,7 +1,7 @@
 -- A visit to a state by a formula, kind by kind ("Judging and its count"). Whatever formula stands there and whatever state: the answer is
 -- what judging comes to. Assumes nothing.
 use mathlib.Core.Path.{_≡_}
-use mathlib.Core.Bool.{Bool, _&&_, _||_}
+use mathlib.Core.Bool.{_&&_, _||_}
 use mathlib.Core.List.{List}
 use Prim.Native.Nat.{ℕ, _+_}
 use lib.ListN.{length}
@@ -19,6 +19,7 @@ use Rattle.judging.specs.Reached.{Room, Here, Reached, Kept}
 use Rattle.judging.specs.declared.judged.Judged.{Judged}
 use Rattle.judging.specs.declared.judged.Sum.{Sum}
 
+-- A formula at a position, judged at what was formed.
 pub record Judges (s f : List ℕ) (at depth : ℕ) (formed : Formed) (m out : List ℕ) (left : ℕ) (r : Judged) (after : List ℕ) : Type 0 where
   pub exact : (F : Formula) (A : Arrival) {steps next : ℕ} → FormulaAt f at depth steps (length (A .state .aliases)) F next
       → Reached s out formed A steps → Room s m out → (r ≡ judgedOf left (judge F A)) × Kept formed out after
@@ -28,6 +29,7 @@ pub record Comes (st : code.State) (out : List ℕ) (left : ℕ) (j : Judgement)
   pub answer : r ≡ judgedOf (left + 1) j
   pub kept : Within (st .end) (length out) out after
 
+-- A formula at a position, judged at a state within its limits.
 pub record Visits (s f : List ℕ) (at depth : ℕ) (st : code.State) (m out : List ℕ) (left : ℕ) (r : Judged) (after : List ℕ) : Type 0 where
   pub exact : (F : Formula) (A : Arrival) {steps next : ℕ} → FormulaAt f at depth steps (length (A .state .aliases)) F next
       → Here s out st A steps → Room s m out → Comes st out left (judge F A) r after
@@ -49,6 +51,7 @@ pub record Conjoins (s f : List ℕ) (at depth : ℕ) (st : code.State) (m out :
       → FormulaAt f mid depth steps (length (A .state .aliases)) G next → Here s out st A steps → Room s m out
       → Comes st out left (both (judge F A) (judge G A)) r after
 
+-- What both come to, if this is what the first came to and that is the second.
 abbrev pub bothOf : Sum → Judgement → Judgement
 bothOf sum k = record { truth = sum .truth && k .truth; count = k .count; limited = sum .limited || k .limited }
 

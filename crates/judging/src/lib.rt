@@ -2,3 +2,4 @@
 mod judge;
 pub mod judged;
 pub mod model;
+mod stepping;

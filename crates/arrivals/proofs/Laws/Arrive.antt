@@ -10,14 +10,14 @@ use Rattle.meaning.specs.Places.{Every, _also_}
 use Rattle.meaning.specs.Steps.State.{State}
 use Rattle.meaning.proofs.Every.{every-parts}
 use Rattle.nodes.specs.Buffer.{Within}
-use Rattle.nodes.proofs.Laws.Buffer.{part, lent, kept}
+use Rattle.nodes.proofs.Laws.Buffer.{part, lent}
 use Rattle.states.specs.declared.state.State as code
 use Rattle.forms.specs.Visit.{Labelled}
 use Rattle.forms.specs.declared.form.Formed.{Formed}
 use Rattle.moves.specs.Moves.{Move}
 use Rattle.moves.specs.Held.{Held}
 use Rattle.moves.specs.Step.{stepOf, runOf, Shown}
-use Rattle.moves.specs.Behind.{movesOf, before, Behind, all, later, Searching}
+use Rattle.moves.specs.Behind.{movesOf, Behind, all, later, Searching}
 use Rattle.moves.specs.Moving.{carried, Leading, Moving}
 use Rattle.moves.specs.declared.step.Step as step
 use Rattle.moves.specs.declared.step.Label.{Label}
@@ -28,7 +28,6 @@ use Rattle.steps.specs.Next.{Nexts}
 use Rattle.successors.specs.Lead.{Leads}
 use Rattle.successors.proofs.Laws.Leads.{held-kept}
 use Rattle.arrivals.specs.Arrive.{Taken, Leaving, Leaves, Sends, ArrivedAt, Arrives}
-use Rattle.arrivals.specs.declared.arrive.Arrived.{Arrived}
 use Rattle.arrivals.specs.declared.arrive.Arrived.the-variants.{By, None}
 use Rattle.arrivals.proofs.Laws.Sending.{Sending, moves-send}
 

@@ -1,14 +1,14 @@
 -- What the moves of a label send ("Steps"). Assumes nothing.
-use mathlib.Core.Path.{_≡_, refl, sym}
-use mathlib.Core.Bool.{Bool, true, false, true≢false}
+use mathlib.Core.Path.{_≡_, refl}
+use mathlib.Core.Bool.{Bool, true, false}
 use mathlib.Core.List.{List, [], _∷_, flatMap}
 use Prim.Native.Nat.{ℕ, _≤_}
 use native.Mathlib.Omega.{arith}
 use lib.ListN.{length}
-use Rattle.meaning.specs.Messages.Term.{Message, nodes}
+use Rattle.meaning.specs.Messages.Term.{Message}
 use Rattle.meaning.specs.Bytes.Process.{Prefix, output, input}
 use Rattle.meaning.specs.Places.{Every, none, _also_}
-use Rattle.meaning.specs.Steps.State.{written, worked}
+use Rattle.meaning.specs.Steps.State.{written}
 use Rattle.meaning.specs.Judging.Limits.{over}
 use Rattle.meaning.proofs.Every.{every-map, every-parts, every-joined}
 use Rattle.meaning.proofs.Messages.{normalForms}
@@ -32,7 +32,6 @@ use Rattle.moves.specs.declared.step.Label.{Label}
 use Rattle.moves.specs.declared.step.Label.the-variants.{Output, Input, Silent}
 use Rattle.moves.proofs.Laws.Allowed.{acting-allowed, run-short}
 use Rattle.moves.proofs.Laws.LimitsPairs.{sent-small}
-use Rattle.moves.proofs.Laws.MovesLists.{every-filter}
 use Rattle.moves.proofs.Laws.Opened.{judged-clear}
 use Rattle.moves.proofs.Laws.MovesSpots.{Stands}
 use Rattle.labelled_steps.proofs.Laws.LabelledBehind.{Small, Offered, moves-offered}

@@ -1,15 +1,13 @@
 -- The arrivals of a label are what its moves lead to ("Steps"). Assumes nothing.
-use mathlib.Core.Path.{_≡_, refl, sym, ap, _∙_}
-use mathlib.Core.Bool.{true, false}
+use mathlib.Core.Path.{_≡_, refl, ap, _∙_}
 use mathlib.Core.List.{List, [], _∷_, map}
-use Rattle.meaning.specs.Messages.Term.{Message, leaf, public}
+use Rattle.meaning.specs.Messages.Term.{leaf, public}
 use Rattle.meaning.specs.Bytes.Formula.{Label, Formula}
 use Rattle.meaning.specs.Steps.State.{State}
 use Rattle.meaning.specs.Judging.{judge}
 use Rattle.meaning.specs.Judging.Visits.{arrivals}
 use Rattle.states.specs.Record.{Placed}
 use Rattle.walks.specs.Settled.{threadsOf}
-use Rattle.moves.specs.Moves.{Move}
 use Rattle.moves.specs.Outcome.{outcome, arrivalOf}
 use Rattle.moves.specs.Behind.{movesOf}
 use Rattle.moves.proofs.Laws.Moves.{outputsMoved, inputsMoved}

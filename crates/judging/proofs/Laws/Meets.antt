@@ -1,5 +1,5 @@
 -- What a visit comes to, by whether its state is over a limit ("Judging and its count"). Assumes nothing.
-use mathlib.Core.Path.{_≡_, refl, ap, _∙_}
+use mathlib.Core.Path.{_≡_, refl, ap}
 use mathlib.Core.Bool.{Bool, true, false, _||_}
 use mathlib.Core.List.{map}
 use Rattle.meaning.specs.Messages.Term.{Recipe}
@@ -7,7 +7,7 @@ use Rattle.meaning.specs.Messages.Normal.{equal}
 use Rattle.meaning.specs.Bytes.Formula.{Label, Formula}
 use Rattle.meaning.specs.Steps.State.{written}
 use Rattle.meaning.specs.Judging.{Judgement, visit, negated, both, someOf, judge}
-use Rattle.meaning.specs.Judging.Limits.{over, overLabel, overState, overRecipes}
+use Rattle.meaning.specs.Judging.Limits.{over, overLabel, overRecipes}
 use Rattle.meaning.specs.Judging.Visits.{Arrival, arrivals, at, meets}
 use Rattle.forms.specs.Form.{overArrival}
 

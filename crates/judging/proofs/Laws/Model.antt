@@ -1,5 +1,4 @@
 -- A formula judged at the start state of a model ("Judging and its count"). Assumes nothing.
-use mathlib.Core.Path.{_≡_}
 use mathlib.Core.List.{List}
 use Prim.Native.Nat.{ℕ, _≤_}
 use native.Mathlib.Omega.{arith}

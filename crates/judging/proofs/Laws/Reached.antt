@@ -1,5 +1,5 @@
 -- A state that was formed is one that judging may go on with, and what stands before it stays ("Judging and its count"). Assumes nothing.
-use mathlib.Core.Path.{_≡_, refl, sym, subst, _∙_}
+use mathlib.Core.Path.{_≡_, refl, sym, subst}
 use mathlib.Core.Bool.{Bool, true, false}
 use mathlib.Core.List.{List}
 use Prim.Native.Nat.{ℕ, _+_, _*_, _≤_}
@@ -7,7 +7,8 @@ use native.Mathlib.Omega.{arith}
 use lib.ListN.{length}
 use Rattle.meaning.specs.Judging.Visits.{Arrival}
 use Rattle.nodes.specs.Buffer.{Within}
-use Rattle.nodes.proofs.Laws.Buffer.{one-after, wider}
+use Rattle.nodes.proofs.Laws.Buffer.{wider}
+use Rattle.terms.specs.Bound.{BoundAt}
 use Rattle.states.specs.declared.state.State as code
 use Rattle.forms.specs.Form.{StateAt, overArrival, Forms}
 use Rattle.forms.specs.declared.form.Formed.{Formed}
@@ -50,3 +51,10 @@ here-kept w h = record { free = h .free; held = held-kept w (h .held); early = h
 
 pub room-kept : {s m m₁ out out₁ : List ℕ} → length m₁ ≡ length m → length out₁ ≡ length out → Room s m out → Room s m₁ out₁
 room-kept e f r = record { short = r .short; wide = omega (arith, r .wide); long = omega (arith, r .long) }
+
+-- The messages of its aliases are bound in front of it.
+pub bound-here : {s out : List ℕ} {st : code.State} {A : Arrival} {steps : ℕ} → Here s out st A steps
+    → BoundAt out (st .aliases) (A .state .aliases) (st .end)
+bound-here {st = st} h =
+    let a = h .held .at in
+    record { end = st .start; bound = a .aliases; below = omega (arith, a .records .size) }

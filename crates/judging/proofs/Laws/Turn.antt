@@ -2,7 +2,7 @@
 use mathlib.Core.Path.{_≡_, refl, sym, ap, subst, _∙_}
 use mathlib.Core.Bool.{Bool, _||_}
 use mathlib.Core.List.{List, [], _∷_, _++_}
-use Prim.Native.Nat.{ℕ, _+_, _*_, _-_, _≤_, _<_}
+use Prim.Native.Nat.{ℕ, _+_, _-_, _≤_}
 use native.Mathlib.Omega.{arith}
 use lib.ListN.{length, length-append}
 use Rattle.meaning.specs.Messages.Term.{Message, leaf, public, nodes}
@@ -12,13 +12,11 @@ use Rattle.meaning.specs.Bytes.Scope.{bindsLabel}
 use Rattle.meaning.specs.Places.{Every, none, _also_}
 use Rattle.meaning.specs.Steps.State.{Bound, State, worked}
 use Rattle.meaning.specs.Steps.Invariant.{Stored, BoundStored}
-use Rattle.meaning.specs.Judging.{Judgement, judge}
-use Rattle.meaning.specs.Judging.Limits.{boundNodes, threadNodes}
+use Rattle.meaning.specs.Judging.{judge}
 use Rattle.meaning.specs.Judging.Visits.{Arrival}
 use Rattle.meaning.proofs.Messages.{normalForms}
 use Rattle.meaning.proofs.Steps.Invariant.Settling.{worked-below}
 use Rattle.nodes.specs.Buffer.{Within}
-use Rattle.nodes.specs.Encoding.{encodeMessage}
 use Rattle.nodes.proofs.Theorems.{runLength}
 use Rattle.nodes.proofs.Laws.Buffer.{one-after}
 use Rattle.terms.proofs.Theorems.{boundLength}
@@ -28,9 +26,8 @@ use Rattle.forms.specs.Visit.{Labelled}
 use Rattle.forms.specs.declared.form.Formed.{Formed}
 use Rattle.moves.specs.Moves.{Move}
 use Rattle.moves.specs.Outcome.{outcome, arrivalOf}
-use Rattle.moves.specs.Held.{Held}
 use Rattle.moves.specs.Step.{stepOf}
-use Rattle.moves.specs.Behind.{movesOf, Behind, later}
+use Rattle.moves.specs.Behind.{Behind, later}
 use Rattle.moves.specs.Moving.{Leading}
 use Rattle.moves.specs.declared.step.Step as step
 use Rattle.moves.specs.declared.step.Label as step-label
@@ -42,19 +39,18 @@ use Rattle.labels.specs.Head.{stepLabel, channelOf, takenOf}
 use Rattle.arrivals.specs.Arrive.{Taken, ArrivedAt, Arrives}
 use Rattle.arrivals.specs.declared.arrive.Arrived.{Arrived}
 use Rattle.arrivals.specs.declared.arrive.Arrived.the-variants.{By, None}
-use Rattle.arrivals.proofs.Laws.Sending.{added, Sending}
+use Rattle.arrivals.proofs.Laws.Sending.{added}
 use Rattle.arrivals.proofs.Laws.Arrive.{listed, sending}
-use Rattle.judging.specs.Judged.{judgedOf, Less}
-use Rattle.judging.specs.Reached.{Room, Here, Kept}
+use Rattle.judging.specs.Judged.{judgedOf}
 use Rattle.judging.specs.Visit.{Judges}
-use Rattle.judging.specs.Steps.{Asked, movesAt, judgementsAt, toCome, Onward, TurnTo, turnOf, Counts, Turns, Falls}
+use Rattle.judging.specs.Steps.{Asked, movesAt, judgementsAt, toCome, TurnTo, turnOf, Counts, Turns}
 use Rattle.judging.specs.declared.judged.Judged.{Judged}
 use Rattle.judging.specs.declared.judged.Judged.the-variants.{Done, Spent}
 use Rattle.judging.specs.declared.judged.Sum.{Sum}
 use Rattle.judging.specs.declared.judged.Turn.{Turn}
 use Rattle.judging.specs.declared.judged.Turn.the-variants.{On, End}
 use Rattle.judging.proofs.Laws.Budget.{none-to-come, spent-to-come, more-to-come}
-use Rattle.judging.proofs.Laws.Reached.{Above, reached, kept-below, room-kept}
+use Rattle.judging.proofs.Laws.Reached.{reached, kept-below, room-kept}
 
 -- A label adds an alias where its step does.
 added-by : (a : Label) → added (stepLabel a) ≡ bindsLabel a
@@ -266,26 +262,4 @@ module _ {s f m out after : List ℕ} {body depth : ℕ} {g : Formed} {sum : Sum
 
 pub ruleset countings = (counts-done, counts-spent)
 
--- In any case a visit is taken off the budget.
-pub falls-none : (left : ℕ) {t l : Bool} → Falls left (End (Done t l left))
-falls-none left = record {
-  goes = λ v sum e. absurd (let z : _≡_ {A = ℕ} 0 1 = cc in omega arith);
-  ends = λ t l n e. let same : left ≡ n = cc in omega arith;
-}
-
-pub falls-spent : (left : ℕ) → Falls left (End Spent)
-falls-spent left = record {
-  goes = λ v sum e. absurd (let z : _≡_ {A = ℕ} 0 1 = cc in omega arith);
-  ends = λ t l n e. absurd (let z : _≡_ {A = ℕ} 0 1 = cc in omega arith);
-}
-
-pub falls-on : {left n : ℕ} {t l a b : Bool} {j : Judged} (v : step.Step) → Less left j → j ≡ Done t l n
-    → Falls left (On v (record { truth = a; limited = b; left = n }))
-falls-on {left} {n} {t} {l} v less d = record {
-  goes = λ u sum e. let same : n ≡ sum .left = cc in omega (arith, less .there t l n d);
-  ends = λ t l n e. absurd (let z : _≡_ {A = ℕ} 0 1 = cc in omega arith);
-}
-
 pub ruleset turning = (turn-none, turn-by)
-
-pub ruleset falling = (falls-none, falls-spent, falls-on)

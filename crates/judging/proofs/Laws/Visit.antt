@@ -6,9 +6,9 @@ use Prim.Native.Nat.{ℕ, _+_, _-_, _≤_, _<_}
 use native.Mathlib.Omega.{arith}
 use lib.ListN.{length, getD}
 use Rattle.meaning.specs.Messages.Normal.{equal}
-use Rattle.meaning.specs.Bytes.Formula.{Label, Formula}
+use Rattle.meaning.specs.Bytes.Formula.{Formula}
 use Rattle.meaning.specs.Steps.State.{written}
-use Rattle.meaning.specs.Judging.{Judgement, negated, both, judge}
+use Rattle.meaning.specs.Judging.{judge}
 use Rattle.meaning.specs.Judging.Limits.{over}
 use Rattle.meaning.specs.Judging.Visits.{Arrival}
 use Rattle.nodes.specs.Buffer.{Within}
@@ -20,19 +20,17 @@ use Rattle.binds.specs.declared.decide.Compared.the-variants.{Terms, TooLarge}
 use Rattle.states.specs.declared.state.State as code
 use Rattle.forms.specs.declared.form.Formed.{Formed}
 use Rattle.forms.specs.declared.form.Formed.the-variants.{At, OverLimit}
-use Rattle.labels.specs.Place.{kindOf, FormulaAt}
+use Rattle.labels.specs.Place.{FormulaAt}
 use Rattle.labels.proofs.Laws.Formula.{formula-kind, shaped, shaped-step, of-equal, of-not, of-and, of-step}
-use Rattle.judging.specs.Judged.{judgedOf, Less}
 use Rattle.judging.specs.Reached.{Room, Here, Reached, Kept}
-use Rattle.judging.specs.Visit.{Judges, Comes, Visits, Equates, Negates, Conjoins, bothOf, Seconds}
+use Rattle.judging.specs.Visit.{Judges, Visits, Equates, Negates, Conjoins, Seconds}
 use Rattle.judging.specs.Steps.{Stepped}
 use Rattle.judging.specs.declared.judged.Judged.{Judged}
 use Rattle.judging.specs.declared.judged.Judged.the-variants.{Done, Spent}
 use Rattle.judging.specs.declared.judged.Sum.{Sum}
 use Rattle.judging.proofs.Laws.Budget.{spent-as, done-as, counted, not-done, not-spent, and-done, and-spent, second-done, second-spent}
 use Rattle.judging.proofs.Laws.Meets.{limit, compared, judge-over, judge-equal, judge-not, judge-and}
-use Rattle.judging.proofs.Laws.Reached.{here-kept, room-kept}
-use Rattle.judging.proofs.Laws.Loop.{bound-here}
+use Rattle.judging.proofs.Laws.Reached.{here-kept, room-kept, bound-here}
 
 -- A visit that goes no further.
 kept-same : (formed : Formed) (out : List ℕ) → Kept formed out out
@@ -232,32 +230,3 @@ module _ {s f m out after : List ℕ} {at depth : ℕ} {st : code.State} {r : Ju
   }
 
 pub ruleset sides = (negates-done, negates-spent, conjoins-spent, conjoins-both, seconds-done, seconds-spent)
-
--- In any case a visit is taken off the budget.
-pub less-spent : (left : ℕ) → Less left Spent
-less-spent left = record { there = λ t l n e. absurd (let z : _≡_ {A = ℕ} 0 1 = cc in omega arith) }
-
-pub less-done : {left n : ℕ} {t l : Bool} → n < left → Less left (Done t l n)
-less-done {left} {n} h = record { there = λ t l n′ e. let same : n ≡ n′ = cc in omega arith }
-
-pub less-here : (left : ℕ) {t l : Bool} → Less (left + 1) (Done t l left)
-less-here left = less-done (omega arith)
-
-pub less-first : {left : ℕ} {t l : Bool} → (left ≡ 0 → ⊥) → Less left (Done t l (left - 1))
-less-first {left} some = let positive : 0 < left = omega arith in less-done (omega arith)
-
-pub less-after : {left n : ℕ} {t l a b : Bool} {r : Judged} → Less left r → r ≡ Done t l n → Less (left + 1) (Done a b n)
-less-after {n = n} {t = t} {l = l} less e = less-done (omega (arith, less .there t l n e))
-
-pub less-later : {left n : ℕ} {t l a b : Bool} {r : Judged} → Less left r → r ≡ Done t l n → Less left (Done a b n)
-less-later {n = n} {t = t} {l = l} less e = less-done (less .there t l n e)
-
-pub less-both : {left n : ℕ} {t l : Bool} {r v : Judged} → Less left r → r ≡ Done t l n → Less n v → Less (left + 1) v
-less-both {n = n} {t = t} {l = l} less e more = record {
-  there = λ t′ l′ k d. omega (arith, less .there t l n e, more .there t′ l′ k d);
-}
-
-pub less-visit : {left : ℕ} {r : Judged} → (left ≡ 0 → ⊥) → Less (left - 1 + 1) r → Less left r
-less-visit {left} some less = let same : left - 1 + 1 ≡ left = omega arith in rw same at less
-
-pub ruleset lessening = (less-spent, less-here, less-first, less-after, less-later, less-both, less-visit)

@@ -1,6 +1,7 @@
 -- `judging::judge::equality` meets its contract. Assumes nothing.
 use borrow.Author.Needs.{needs}
-use Rattle.judging.proofs.Laws.Visit.{equatings, lessening}
+use Rattle.judging.proofs.Laws.Less.{lessening}
+use Rattle.judging.proofs.Laws.Visit.{equatings}
 use Rattle.judging.proofs.judge.equality.Statement.{statement}
 use Rattle.judging.proofs.judge.equality.Tie as tie
 

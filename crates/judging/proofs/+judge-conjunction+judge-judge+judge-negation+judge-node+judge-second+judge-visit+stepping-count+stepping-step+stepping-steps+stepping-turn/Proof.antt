@@ -1,41 +1,30 @@
 -- The functions of judging meet their contracts. Formula nodes left on the path fall, eight calls to a node; the steps of a formula are
 -- a loop, in which what is left of the budget falls. Assumes nothing.
-use Prim.Native.Nat.{ℕ, _+_, _*_, _<_, _≤_}
+use Prim.Native.Nat.{ℕ, _+_, _*_, _<_}
 use mathlib.Core.List.{List}
-use mathlib.Core.Path.{_≡_}
 use borrow.Author.Needs.{needs}
 use borrow.Fn.Kinds.{In, PK}
 use borrow.Fn.PlainCycle.{Measures, is, falls, and}
 use Rattle.judging.proofs.judge.conjunction.Reads as conjunction
 use Rattle.judging.proofs.judge.conjunction.Kinds as conjunction-kinds
-use Rattle.judging.proofs.judge.+conjunction+count+judge+negation+node+second+step+steps+turn+visit.Lts-conjunction as conjunction-lts
-use Rattle.judging.proofs.judge.count.Reads as count
-use Rattle.judging.proofs.judge.count.Kinds as count-kinds
-use Rattle.judging.proofs.judge.+conjunction+count+judge+negation+node+second+step+steps+turn+visit.Lts-count as count-lts
+use Rattle.judging.proofs.stepping.count.Reads as count
+use Rattle.judging.proofs.stepping.count.Kinds as count-kinds
 use Rattle.judging.proofs.judge.judge.Reads as judge
 use Rattle.judging.proofs.judge.judge.Kinds as judge-kinds
-use Rattle.judging.proofs.judge.+conjunction+count+judge+negation+node+second+step+steps+turn+visit.Lts-judge as judge-lts
 use Rattle.judging.proofs.judge.negation.Reads as negation
 use Rattle.judging.proofs.judge.negation.Kinds as negation-kinds
-use Rattle.judging.proofs.judge.+conjunction+count+judge+negation+node+second+step+steps+turn+visit.Lts-negation as negation-lts
 use Rattle.judging.proofs.judge.node.Reads as node
 use Rattle.judging.proofs.judge.node.Kinds as node-kinds
-use Rattle.judging.proofs.judge.+conjunction+count+judge+negation+node+second+step+steps+turn+visit.Lts-node as node-lts
 use Rattle.judging.proofs.judge.second.Reads as second
 use Rattle.judging.proofs.judge.second.Kinds as second-kinds
-use Rattle.judging.proofs.judge.+conjunction+count+judge+negation+node+second+step+steps+turn+visit.Lts-second as second-lts
-use Rattle.judging.proofs.judge.step.Reads as step
-use Rattle.judging.proofs.judge.step.Kinds as step-kinds
-use Rattle.judging.proofs.judge.+conjunction+count+judge+negation+node+second+step+steps+turn+visit.Lts-step as step-lts
-use Rattle.judging.proofs.judge.steps.Reads as steps
-use Rattle.judging.proofs.judge.steps.Kinds as steps-kinds
-use Rattle.judging.proofs.judge.+conjunction+count+judge+negation+node+second+step+steps+turn+visit.Lts-steps as steps-lts
-use Rattle.judging.proofs.judge.turn.Reads as turn
-use Rattle.judging.proofs.judge.turn.Kinds as turn-kinds
-use Rattle.judging.proofs.judge.+conjunction+count+judge+negation+node+second+step+steps+turn+visit.Lts-turn as turn-lts
+use Rattle.judging.proofs.stepping.step.Reads as step
+use Rattle.judging.proofs.stepping.step.Kinds as step-kinds
+use Rattle.judging.proofs.stepping.steps.Reads as steps
+use Rattle.judging.proofs.stepping.steps.Kinds as steps-kinds
+use Rattle.judging.proofs.stepping.turn.Reads as turn
+use Rattle.judging.proofs.stepping.turn.Kinds as turn-kinds
 use Rattle.judging.proofs.judge.visit.Reads as visit
 use Rattle.judging.proofs.judge.visit.Kinds as visit-kinds
-use Rattle.judging.proofs.judge.+conjunction+count+judge+negation+node+second+step+steps+turn+visit.Lts-visit as visit-lts
 use Rattle.arrivals.proofs.arrive.next.Reads as next-reads
 use Rattle.judging.proofs.judge.equality.Reads as equality-reads
 use Rattle.judging.proofs.judged.both.Reads as both-reads
@@ -44,11 +33,12 @@ use Rattle.labels.proofs.head.work.Reads as work-reads
 use Rattle.layouts.proofs.ends.formula.Reads as formula-reads
 use Rattle.nodes.proofs.node.wide.Reads as wide-reads
 use Rattle.steps.proofs.next.before.Reads as before-reads
-use Rattle.judging.proofs.judge.+conjunction+count+judge+negation+node+second+step+steps+turn+visit.{statement}
-use Rattle.judging.proofs.judge.+conjunction+count+judge+negation+node+second+step+steps+turn+visit.Tie.{close}
-use Rattle.judging.proofs.Laws.Visit.{judgings, visitings, kinds, sides, lessening}
-use Rattle.judging.proofs.Laws.Turn.{turning, countings, falling}
-use Rattle.judging.proofs.Laws.Loop.{Looping, looping-falls, loopings, steppings, shortness}
+use Rattle.judging.proofs.+judge-conjunction+judge-judge+judge-negation+judge-node+judge-second+judge-visit+stepping-count+stepping-step+stepping-steps+stepping-turn as cycle
+use Rattle.judging.proofs.Laws.Less.{lessening, falling}
+use Rattle.judging.proofs.Laws.Visit.{judgings, visitings, kinds, sides}
+use Rattle.judging.proofs.Laws.Turn.{turning, countings}
+use Rattle.judging.proofs.Laws.Loop.{Looping, looping-falls, loopings}
+use Rattle.judging.proofs.Laws.Step.{steppings, shortness}
 
 abbrev μ-conjunction : Measures 4 conjunction-kinds.ps ℕ
 μ-conjunction κs a = 8 * a .1 .1 .1 .0 + 9
@@ -87,27 +77,27 @@ at n ps μ pre t = and n ps (is n ps μ t) pre
 abbrev below : (n : ℕ) (ps : List (PK n)) → Measures n ps ℕ → In n ps → ℕ → In n ps
 below n ps μ pre t = and n ps (falls n ps _<_ μ t) pre
 
-abbrev steps-Inv-loop : steps-lts.InvT-loop
+abbrev steps-Inv-loop : cycle.Lts-stepping-steps.InvT-loop
 steps-Inv-loop s f depth state channel taken m₀ out₀ left from₀ sum₀ body m out from sum =
     Looping s f body depth state (from₀ .label) channel taken m₀ out₀ left m out from sum
 
-abbrev steps-μ-loop : steps-lts.MeasureT-loop
+abbrev steps-μ-loop : cycle.Lts-stepping-steps.MeasureT-loop
 steps-μ-loop s f depth state channel taken m₀ out₀ left from₀ sum₀ body m out from sum = sum .left
 
-pub +conjunction+count+judge+negation+node+second+step+steps+turn+visit-spec : {M : Type 1} → statement M
-+conjunction+count+judge+negation+node+second+step+steps+turn+visit-spec =
-    close
+pub +judge·conjunction+judge·judge+judge·negation+judge·node+judge·second+judge·visit+stepping·count+stepping·step+stepping·steps+stepping·turn-spec : {M : Type 1} → cycle.statement M
++judge·conjunction+judge·judge+judge·negation+judge·node+judge·second+judge·visit+stepping·count+stepping·step+stepping·steps+stepping·turn-spec =
+    cycle.Tie.close
     μ-conjunction
-    μ-count
     μ-judge
     μ-negation
     μ-node
     μ-second
+    μ-visit
+    μ-count
     μ-step
     μ-steps
     μ-turn
-    μ-visit
-    (λ t. conjunction-lts.spec (
+    (λ t. cycle.Lts-judge-conjunction.spec (
       below 4 judge-kinds.ps μ-judge judge.Pre t,
       judge.Post,
       formula-reads.Asked,
@@ -128,22 +118,7 @@ pub +conjunction+count+judge+negation+node+second+step+steps+turn+visit-spec : {
     (λ c. search needs)
     (λ c. search needs)
     (λ c. (search needs, (search needs, (search (needs, lessening), search (needs, sides))))))
-    (λ t. count-lts.spec
-    (below 4 judge-kinds.ps μ-judge judge.Pre t, judge.Post, either-reads.Asked, either-reads.Learnt)
-    (at 4 count-kinds.ps μ-count count.Pre t)
-    count.Post
-    (λ c κs. search needs)
-    (λ c. search needs)
-    (λ c κs. search needs)
-    (λ c κs. search needs)
-    (λ c. search needs)
-    (λ c. search needs)
-    (λ c. search needs)
-    (λ c. (search needs, (search needs, (search (needs, falling), search (needs, countings)))))
-    (λ c. search needs)
-    (λ c. search needs)
-    (λ c. (search needs, (search needs, (search (needs, falling), search (needs, countings))))))
-    (λ t. judge-lts.spec
+    (λ t. cycle.Lts-judge-judge.spec
     (below 4 visit-kinds.ps μ-visit visit.Pre t, visit.Post)
     (at 4 judge-kinds.ps μ-judge judge.Pre t)
     judge.Post
@@ -157,7 +132,7 @@ pub +conjunction+count+judge+negation+node+second+step+steps+turn+visit-spec : {
     (λ c. search needs)
     (λ c. (search needs, (search needs, (search (needs, lessening), search (needs, judgings)))))
     (λ c. (search needs, (search needs, (search (needs, lessening), search (needs, judgings))))))
-    (λ t. negation-lts.spec
+    (λ t. cycle.Lts-judge-negation.spec
     (below 4 judge-kinds.ps μ-judge judge.Pre t, judge.Post)
     (at 4 negation-kinds.ps μ-negation negation.Pre t)
     negation.Post
@@ -170,7 +145,7 @@ pub +conjunction+count+judge+negation+node+second+step+steps+turn+visit-spec : {
     (λ c. search needs)
     (λ c. search needs)
     (λ c. (search needs, (search needs, (search (needs, lessening), search (needs, sides))))))
-    (λ t. node-lts.spec (
+    (λ t. cycle.Lts-judge-node.spec (
       wide-reads.Asked,
       wide-reads.Learnt,
       equality-reads.Asked,
@@ -205,7 +180,7 @@ pub +conjunction+count+judge+negation+node+second+step+steps+turn+visit-spec : {
     (λ c. search needs)
     (λ c. search needs)
     (λ c. (search needs, (search needs, (search needs, search (needs, kinds))))))
-    (λ t. second-lts.spec (
+    (λ t. cycle.Lts-judge-second.spec (
       below 4 judge-kinds.ps μ-judge judge.Pre t,
       judge.Post,
       both-reads.Asked,
@@ -226,8 +201,46 @@ pub +conjunction+count+judge+negation+node+second+step+steps+turn+visit-spec : {
     (λ c. search needs)
     (λ c. search needs)
     (λ c. (search needs, (search needs, (search (needs, lessening), search (needs, sides))))))
-    (λ t. step-lts.spec
-    (work-reads.Asked, work-reads.Learnt, below 6 steps-kinds.ps μ-steps steps.Pre t, steps.Post)
+    (λ t. cycle.Lts-judge-visit.spec
+    (below 4 node-kinds.ps μ-node node.Pre t, node.Post)
+    (at 4 visit-kinds.ps μ-visit visit.Pre t)
+    visit.Post
+    (λ c. (search needs, (search needs, (search (needs, lessening), search (needs, visitings)))))
+    (λ c. (search needs, (search needs, (search (needs, lessening), search (needs, visitings)))))
+    (λ c. (search needs, (search needs, (search (needs, lessening), search (needs, visitings)))))
+    (λ c. (search needs, (search needs, (search (needs, lessening), search (needs, visitings)))))
+    (λ c. (search needs, (search needs, (search (needs, lessening), search (needs, visitings)))))
+    (λ c. (search needs, (search needs, (search (needs, lessening), search (needs, visitings)))))
+    (λ c. search needs)
+    (λ c κs. search needs)
+    (λ c. search needs)
+    (λ c. search needs)
+    (λ c. (search needs, (search needs, (search (needs, lessening), search (needs, visitings))))))
+    (λ t. cycle.Lts-stepping-count.spec (
+      below 4 judge-kinds.ps μ-judge judge.Pre t,
+      judge.Post,
+      either-reads.Asked,
+      either-reads.Learnt,
+    )
+    (at 4 count-kinds.ps μ-count count.Pre t)
+    count.Post
+    (λ c κs. search needs)
+    (λ c. search needs)
+    (λ c κs. search needs)
+    (λ c κs. search needs)
+    (λ c. search needs)
+    (λ c. search needs)
+    (λ c. search needs)
+    (λ c. (search needs, (search needs, (search (needs, falling), search (needs, countings)))))
+    (λ c. search needs)
+    (λ c. search needs)
+    (λ c. (search needs, (search needs, (search (needs, falling), search (needs, countings))))))
+    (λ t. cycle.Lts-stepping-step.spec (
+      work-reads.Asked,
+      work-reads.Learnt,
+      below 6 steps-kinds.ps μ-steps steps.Pre t,
+      steps.Post,
+    )
     (at 4 step-kinds.ps μ-step step.Pre t)
     step.Post
     (λ c. search needs)
@@ -247,8 +260,12 @@ pub +conjunction+count+judge+negation+node+second+step+steps+turn+visit-spec : {
     (λ c. (search needs, (search needs, (search (needs, lessening), search (needs, steppings)))))
     (λ c. search needs)
     (λ c. (search needs, (search needs, (search (needs, lessening), search (needs, steppings))))))
-    (λ t. steps-lts.spec
-    (before-reads.Asked, before-reads.Learnt, below 6 turn-kinds.ps μ-turn turn.Pre t, turn.Post)
+    (λ t. cycle.Lts-stepping-steps.spec (
+      before-reads.Asked,
+      before-reads.Learnt,
+      below 6 turn-kinds.ps μ-turn turn.Pre t,
+      turn.Post,
+    )
     (at 6 steps-kinds.ps μ-steps steps.Pre t)
     steps.Post
     steps-Inv-loop
@@ -263,7 +280,7 @@ pub +conjunction+count+judge+negation+node+second+step+steps+turn+visit-spec : {
     (λ c. search needs)
     (λ c. search needs)
     (λ c. (search needs, (search needs, (search (needs, loopings), search (needs, loopings))))))
-    (λ t. turn-lts.spec
+    λ t. cycle.Lts-stepping-turn.spec
     (next-reads.Asked, next-reads.Learnt, below 4 count-kinds.ps μ-count count.Pre t, count.Post)
     (at 6 turn-kinds.ps μ-turn turn.Pre t)
     turn.Post
@@ -276,19 +293,4 @@ pub +conjunction+count+judge+negation+node+second+step+steps+turn+visit-spec : {
     (λ c. (search needs, (search needs, (search (needs, falling), search (needs, turning)))))
     (λ c. search needs)
     (λ c. search needs)
-    (λ c. (search needs, (search needs, (search (needs, falling), search (needs, turning))))))
-    λ t. visit-lts.spec
-    (below 4 node-kinds.ps μ-node node.Pre t, node.Post)
-    (at 4 visit-kinds.ps μ-visit visit.Pre t)
-    visit.Post
-    (λ c. (search needs, (search needs, (search (needs, lessening), search (needs, visitings)))))
-    (λ c. (search needs, (search needs, (search (needs, lessening), search (needs, visitings)))))
-    (λ c. (search needs, (search needs, (search (needs, lessening), search (needs, visitings)))))
-    (λ c. (search needs, (search needs, (search (needs, lessening), search (needs, visitings)))))
-    (λ c. (search needs, (search needs, (search (needs, lessening), search (needs, visitings)))))
-    (λ c. (search needs, (search needs, (search (needs, lessening), search (needs, visitings)))))
-    (λ c. search needs)
-    (λ c κs. search needs)
-    (λ c. search needs)
-    (λ c. search needs)
-    (λ c. (search needs, (search needs, (search (needs, lessening), search (needs, visitings)))))
+    (λ c. (search needs, (search needs, (search (needs, falling), search (needs, turning)))))

@@ -1,0 +1,169 @@
+// A step formula judged at a state ("Judging and its count"): its body is judged at every state that a step of its label leads to.
+use crate::judge;
+use crate::judged;
+use crate::judged::Judged;
+use crate::judged::Sum;
+use crate::judged::Turn;
+use arrivals::arrive;
+use arrivals::arrive::Arrived;
+use forms::form::Formed;
+use labels::head;
+use labels::head::Head;
+use labels::head::Headed;
+use moves::step::Step;
+use states::state::State;
+use steps::next;
+ghost use mathlib.Core.Path.{_≡_};
+ghost use Prim.Native.Nat.{_+_, _≤_};
+ghost use lib.ListN.{length};
+ghost use Rattle.judging.specs.Judged.{Less};
+ghost use Rattle.judging.specs.Steps.{Stepped, Counts, Turns, Falls, AllSteps};
+
+// The most bytes of a message.
+const MESSAGE: usize = 510;
+
+// A step formula of a kind, whose fields stand at a position.
+pub(crate) fn step(
+    s: &[u8],
+    f: &[u8],
+    kind: usize,
+    at: usize,
+    depth: usize,
+    state: State,
+    m: &mut [u8],
+    out: &mut [u8],
+    left: u32,
+) -> Judged
+    requires { ⌜ (length (now s) ≤ 4096) × (65536 ≤ length (now out)) × (state .end ≤ 50592) × (state .aliases ≤ state .end) ⌝ }
+    ensures { λ _. ⌜ length (now (m .exit)) ≡ length (now (m .entry)) ⌝ }
+    ensures { λ _. ⌜ length (now (out .exit)) ≡ length (now (out .entry)) ⌝ }
+    ensures { λ r. ⌜ Less (left + 1) r ⌝ }
+    ensures { λ r. ⌜ Stepped (now (s .entry)) (now (f .entry)) kind at depth state (now (m .entry)) (now (out .entry)) left r (now (out .exit)) ⌝ }
+{
+    let mut channel = [0u8; MESSAGE];
+    let mut taken = [0u8; MESSAGE];
+    match head::work(
+        f,
+        kind,
+        at,
+        state.aliases,
+        state.end,
+        out,
+        &mut channel,
+        &mut taken,
+    ) {
+        Headed::By(head) => {
+            let c = head.channel;
+            let t = head.taken;
+            steps(
+                s,
+                f,
+                head,
+                depth,
+                state,
+                &channel[0..c],
+                &taken[0..t],
+                m,
+                out,
+                left,
+            )
+        }
+        Headed::TooLarge => Judged::Done(false, true, left),
+    }
+}
+
+// The body of a step formula, judged at each state that a step of its label leads to.
+fn steps(
+    s: &[u8],
+    f: &[u8],
+    head: Head,
+    depth: usize,
+    state: State,
+    channel: &[u8],
+    taken: &[u8],
+    m: &mut [u8],
+    out: &mut [u8],
+    left: u32,
+) -> Judged
+    requires { ⌜ (length (now s) ≤ 4096) × (65536 ≤ length (now out)) × (state .end ≤ 50592) × (state .aliases ≤ state .end) ⌝ }
+    ensures { λ _. ⌜ length (now (m .exit)) ≡ length (now (m .entry)) ⌝ }
+    ensures { λ _. ⌜ length (now (out .exit)) ≡ length (now (out .entry)) ⌝ }
+    ensures { λ r. ⌜ Less (left + 1) r ⌝ }
+    ensures { λ r. ⌜ AllSteps (now (s .entry)) (now (f .entry)) head depth state (now (channel .entry)) (now (taken .entry)) (now (m .entry)) (now (out .entry)) left r (now (out .exit)) ⌝ }
+{
+    let label = head.label;
+    let mut from = next::before(label, state);
+    let mut sum = Sum {
+        truth: false,
+        limited: false,
+        left: left,
+    };
+    let body = head.body;
+    loop {
+        match turn(s, f, body, depth, state, from, channel, taken, m, out, sum) {
+            Turn::On(found, more) => {
+                from = found;
+                sum = more;
+            }
+            Turn::End(total) => {
+                return total;
+            }
+        }
+    }
+}
+
+// The body of a step formula, judged at the state that the step after one leads to.
+fn turn(
+    s: &[u8],
+    f: &[u8],
+    body: usize,
+    depth: usize,
+    state: State,
+    from: Step,
+    channel: &[u8],
+    taken: &[u8],
+    m: &mut [u8],
+    out: &mut [u8],
+    sum: Sum,
+) -> Turn
+    requires { ⌜ (length (now s) ≤ 4096) × (65536 ≤ length (now out)) × (state .end ≤ 50592) × (state .aliases ≤ state .end) ⌝ }
+    ensures { λ _. ⌜ length (now (m .exit)) ≡ length (now (m .entry)) ⌝ }
+    ensures { λ _. ⌜ length (now (out .exit)) ≡ length (now (out .entry)) ⌝ }
+    ensures { λ r. ⌜ Falls (sum .left) r ⌝ }
+    ensures { λ r. ⌜ Turns (now (s .entry)) (now (f .entry)) body depth state from (now (channel .entry)) (now (taken .entry)) (now (m .entry)) (now (out .entry)) sum r (now (out .exit)) ⌝ }
+{
+    match arrive::next(s, state, from, channel, taken, m, out) {
+        Arrived::By(found, formed) => count(s, f, body, depth, found, formed, m, out, sum),
+        Arrived::None => Turn::End(Judged::Done(sum.truth, sum.limited, sum.left)),
+    }
+}
+
+// The body of a step formula, judged at the state that a step leads to and added to what the steps before it came to.
+fn count(
+    s: &[u8],
+    f: &[u8],
+    body: usize,
+    depth: usize,
+    found: Step,
+    formed: Formed,
+    m: &mut [u8],
+    out: &mut [u8],
+    sum: Sum,
+) -> Turn
+    ensures { λ _. ⌜ length (now (m .exit)) ≡ length (now (m .entry)) ⌝ }
+    ensures { λ _. ⌜ length (now (out .exit)) ≡ length (now (out .entry)) ⌝ }
+    ensures { λ r. ⌜ Falls (sum .left) r ⌝ }
+    ensures { λ r. ⌜ Counts (now (s .entry)) (now (f .entry)) body depth found formed (now (m .entry)) (now (out .entry)) sum r (now (out .exit)) ⌝ }
+{
+    match judge::judge(s, f, body, depth, formed, m, out, sum.left) {
+        Judged::Done(truth, limited, more) => Turn::On(
+            found,
+            Sum {
+                truth: judged::either(sum.truth, truth),
+                limited: judged::either(sum.limited, limited),
+                left: more,
+            },
+        ),
+        Judged::Spent => Turn::End(Judged::Spent),
+    }
+}
