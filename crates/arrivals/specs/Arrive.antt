@@ -25,7 +25,7 @@ use Rattle.moves.specs.declared.step.Label.the-variants.{Input}
 use Rattle.arrivals.specs.declared.arrive.Arrived.{Arrived}
 use Rattle.arrivals.specs.declared.arrive.Arrived.the-variants.{By, None}
 
--- The message of an input's label.
+-- The message of an input's label; for other labels any message that a state may hold.
 pub record Taken (S : State) (taken : List ℕ) (l : Label) (y : Message) : Type 0 where
   pub labelled : l ≡ Input → Labelled taken y
   pub stored : Stored (S .next) y
@@ -40,7 +40,7 @@ pub record Leaving (s out : List ℕ) (st : code.State) (S : State) (h : Held s 
   pub listed : movesOf (v .label) channel (S .next) (h .at .placed) ≡ earlier ++ (w ∷ others)
   pub same : v ≡ stepOf (st .start) w
   pub taking : Taken S taken (v .label) y
-  pub said : Stands message 0 (runOf w) (length (runOf w))
+  pub sent : Stands message 0 (runOf w) (length (runOf w))
 
 -- Whatever state stands there, and whatever step of it this is: the state that it leads to.
 pub record Leaves (s taken message : List ℕ) (st : code.State) (v : step.Step) (m out : List ℕ) (r : Formed) (after : List ℕ) : Type 0 where

@@ -20,7 +20,7 @@ pub enum Arrived {
 // The most bytes of a message.
 const MESSAGE: usize = 510;
 
-// Where a step leads that sends the message at the front of a slice.
+// Where a step leads that sends the message at the front of a slice. No step sends one that is longer than the slice.
 fn sent(s: &[u8], state: State, step: Step, message: &[u8], m: &mut [u8], out: &mut [u8]) -> Formed
     requires { ⌜ (length (now s) ≤ 4096) × (state .end ≤ length (now out)) ⌝ }
     ensures { λ _. ⌜ Within 0 (length (now (m .entry))) (now (m .entry)) (now (m .exit)) ⌝ }

@@ -9,7 +9,7 @@ const SLICE: usize = 4097;
 
 const BUDGET: u32 = 1000000;
 
-// Puts the first bytes of a file into a slice and answers how many there are. A missing file counts as empty.
+// Puts the first bytes of a file into a slice and answers how many there are: none, if there is no such file.
 fn load(path: &[u8], slice: &mut [u8]) -> usize
     ensures { λ r. ⌜ r ≤ length (now (slice .entry)) ⌝ }
 {

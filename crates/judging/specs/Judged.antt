@@ -11,6 +11,6 @@ use Rattle.judging.specs.declared.judged.Judged.the-variants.{Done, Spen
 unfoldable pub judgedOf : (left : ℕ) → Judgement → Judged
 judgedOf left j = elim (ltb left (j .count)) [ true ↦ Spent | false ↦ Done (j .truth) (j .limited) (left - j .count) ]
 
--- In any case a visit is taken off the budget.
+-- In any case a visit is taken off the budget, unless it is spent.
 pub record Less (left : ℕ) (r : Judged) : Type 0 where
   pub there : (truth limited : Bool) (more : ℕ) → r ≡ Done truth limited more → more < left

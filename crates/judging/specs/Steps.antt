@@ -41,7 +41,7 @@ pub record Stepped (s f : List ℕ) (kind at depth : ℕ) (st : code.State) (m o
       → FormulaAt f body depth steps (bindsLabel a + length (A .state .aliases)) F next → Here s out st A (steps + 1) → Room s m out
       → Comes st out left (judge (Formula.step a F) A) r after
 
--- What is asked of those who judge the body of a step formula: its label's messages are worked.
+-- What those who judge the body of a step formula are given: the state, the body, and the worked messages of the label.
 pub record Asked (s f : List ℕ) (body depth : ℕ) (st : code.State) (l : step-label.Label) (channel taken m out : List ℕ) : Type 0 where
   pub label : Label
   pub formula : Formula
@@ -112,7 +112,7 @@ pub record Counts (s f : List ℕ) (body depth : ℕ) (v : step.Step) (formed : 
     pub judges : Judges s f body depth formed m out (sum .left) judged after
     pub answer : r ≡ turnOf v sum judged
 
--- In any case a visit is taken off the budget.
+-- In any case a visit is taken off the budget where a further step was found, and nothing is added to it at the end.
 pub record Falls (left : ℕ) (r : Turn) : Type 0 where
   pub goes : (v : step.Step) (sum : Sum) → r ≡ On v sum → sum .left < left
   pub ends : (truth limited : Bool) (more : ℕ) → r ≡ End (Done truth limited more) → more ≤ left

@@ -3,13 +3,14 @@ use moves::step::Step;
 ghost use mathlib.Core.Path.{_≡_};
 ghost use mathlib.Core.Bool.{_&&_, _||_};
 
-// Whether the formula is true, whether a visit met a limit, and what is left of the budget; or the visits are more than the budget.
+// Whether the formula is true, whether a visit met a limit, and what is left of the budget; or the visits are more than the budget. Where no formula stands, the
+// answer is the last one.
 pub enum Judged {
     Done(bool, bool, u32),
     Spent,
 }
 
-// What the steps of a formula have come to so far.
+// What the steps of a formula have come to so far, or the first side of `and`.
 pub(crate) struct Sum {
     pub truth: bool,
     pub limited: bool,

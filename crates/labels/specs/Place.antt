@@ -7,7 +7,8 @@ use Rattle.meaning.specs.Bytes.Nesting.{labelTerms, formulaTerms, formulaDepth,
 use Rattle.meaning.specs.Bytes.Scope.{LabelScoped, FormulaScoped}
 use Rattle.meaning.specs.Bytes.Standing.{Stands}
 
--- A formula stands in f from at to next, with every alias in scope, at most left nodes and at most steps step formulas on a path.
+-- A formula stands in f from at to next, with every alias in scope, at most left nodes and at most steps step formulas on a path, and
+-- at most 8 term nodes.
 pub record FormulaAt (f : List ℕ) (at left steps scope : ℕ) (F : Formula) (next : ℕ) : Type 0 where
   pub stands : Stands f at (encodeFormula F) next
   pub deep : formulaDepth F ≤ left
@@ -26,7 +27,7 @@ encodeLabel (output C) = encodeTerm C
 encodeLabel (input C M) = encodeTerm C ++ encodeTerm M
 encodeLabel silent = []
 
--- The fields of a step formula stand in f from at to body, with every alias in scope.
+-- The fields of a step formula stand in f from at to body, with every alias in scope and at most 8 term nodes on a path.
 pub record LabelAt (f : List ℕ) (at scope : ℕ) (a : Label) (body : ℕ) : Type 0 where
   pub stands : Stands f at (encodeLabel a) body
   pub terms : labelTerms a ≤ 8

@@ -19,7 +19,7 @@ pub(crate) fn run(text: &[u8], first: &[u8], second: &[u8], formula: &[u8]) {
     let budget = budget_of(text::number(&text[middle..]));
     let answer = gubzsenil::gubzsenil_verdict(first, second, formula, &mut work[0..lent], budget);
     tell::numbers(answer);
-    tell::work(became(&work));
+    tell::work(left_in(&work));
 }
 
 // So many work bytes, or all.
@@ -40,27 +40,27 @@ fn budget_of(n: usize) -> u32 {
 }
 
 // What a verdict leaves of the work bytes.
-pub(crate) enum Fate {
+pub(crate) enum WorkBytes {
     Untouched,
     Cleared,
-    Spoilt,
+    Changed,
 }
 
-// What became of the bytes that the verdict uses and of the rest.
-fn became(work: &[u8; WORK]) -> Fate {
+// What is left in the bytes that the verdict uses and in the rest.
+fn left_in(work: &[u8; WORK]) -> WorkBytes {
     let whole = &work[..];
     let used = &whole[0..USED];
     let rest = &whole[USED..];
     if !all(rest, FILL) {
-        return Fate::Spoilt;
+        return WorkBytes::Changed;
     }
     if all(used, FILL) {
-        return Fate::Untouched;
+        return WorkBytes::Untouched;
     }
     if all(used, 0) {
-        return Fate::Cleared;
+        return WorkBytes::Cleared;
     }
-    Fate::Spoilt
+    WorkBytes::Changed
 }
 
 // Whether every byte is b.

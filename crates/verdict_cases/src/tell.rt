@@ -1,5 +1,5 @@
 // Writes an answer behind its line.
-use crate::run::Fate;
+use crate::run::WorkBytes;
 use gubzsenil::answer::Answer;
 use libc::STDOUT_FILENO;
 
@@ -16,11 +16,11 @@ fn number(n: u32) {
     io::print_decimal(STDOUT_FILENO, n as u64);
 }
 
-pub(crate) fn work(fate: Fate) {
-    match fate {
-        Fate::Untouched => word(b" untouched"),
-        Fate::Cleared => word(b" cleared"),
-        Fate::Spoilt => word(b" spoilt"),
+pub(crate) fn work(left: WorkBytes) {
+    match left {
+        WorkBytes::Untouched => word(b" untouched"),
+        WorkBytes::Cleared => word(b" cleared"),
+        WorkBytes::Changed => word(b" changed"),
     }
 }
 

@@ -71,7 +71,7 @@ module _ {s message m out after : List ℕ} {st : code.State} {v : step.Step} {r
       exact = λ S h y w l room.
           let f = sending h (v .label) (l .channel) y (l .earlier) (l .others) w (l .listed) in
           let long : length (runOf w) ≡ size = sym (f .size n) ∙ sym (ap (λ u. u .size) (l .same)) ∙ e in
-          let run : take (size - 0) (drop 0 message) ≡ runOf w = rw long at (part (l .said)) in
+          let run : take (size - 0) (drop 0 message) ≡ runOf w = rw long at (part (l .sent)) in
           d .exact S h y w (moving h y w l (rw run (f .sent n))) room;
     };
   }
@@ -82,7 +82,7 @@ module _ {s message m out after : List ℕ} {st : code.State} {v : step.Step} {r
       exact = λ S h y w l room.
           let f = sending h (v .label) (l .channel) y (l .earlier) (l .others) w (l .listed) in
           let long : length (runOf w) ≡ v .size = sym (f .size n) ∙ sym (ap (λ u. u .size) (l .same)) in
-          absurd (omega (arith, simp length-append at (ap length (l .said .bytes))));
+          absurd (omega (arith, simp length-append at (ap length (l .sent .bytes))));
     };
   }
 
@@ -143,7 +143,7 @@ module _ {s channel m out message : List ℕ} {st : code.State} {from : step.Ste
             listed = subst (λ (l : Label). movesOf l x (S .next) (h .at .placed) ≡ earlier ++ (w ∷ others)) label there;
             same = same;
             taking = subst (λ (l : Label). Taken S taken l y) label t;
-            said = subst (λ (n : ℕ). Stands (take (510 - 0) (drop 0 said)) 0 (runOf w) n) size (lent run (sends .short));
+            sent = subst (λ (n : ℕ). Stands (take (510 - 0) (drop 0 said)) 0 (runOf w) n) size (lent run (sends .short));
           } in
           let room : Leading s st S m₁ out₁ =
           record {
