@@ -3,8 +3,8 @@ use moves::step::Step;
 ghost use mathlib.Core.Path.{_≡_};
 ghost use mathlib.Core.Bool.{_&&_, _||_};
 
-// Whether the formula is true, whether a visit met a limit, and what is left of the budget; or the visits are more than the budget. Where no formula stands, the
-// answer is the last one.
+// Whether the formula is true, whether a visit met a limit, and what is left of the budget; or the visits are more than the budget, which is
+// also the answer where no formula stands.
 pub enum Judged {
     Done(bool, bool, u32),
     Spent,
