@@ -6,7 +6,6 @@ use native.Mathlib.Omega.{arith}
 use lib.ListN.{length, take, drop, length-append}
 use Rattle.meaning.specs.Messages.Term.{Message}
 use Rattle.meaning.specs.Bytes.Standing.{Stands}
-use Rattle.meaning.specs.Places.{Every, _also_}
 use Rattle.meaning.specs.Steps.State.{State}
 use Rattle.meaning.proofs.Every.{every-parts}
 use Rattle.nodes.specs.Buffer.{Within}
@@ -14,6 +13,7 @@ use Rattle.nodes.proofs.Laws.Buffer.{part, lent}
 use Rattle.states.specs.declared.state.State as code
 use Rattle.forms.specs.Visit.{Labelled}
 use Rattle.forms.specs.declared.form.Formed.{Formed}
+use Rattle.positions.proofs.Laws.Everywhere.{every-first}
 use Rattle.moves.specs.Moves.{Move}
 use Rattle.moves.specs.Held.{Held}
 use Rattle.moves.specs.Step.{stepOf, runOf, Shown}
@@ -31,13 +31,10 @@ use Rattle.arrivals.specs.Arrive.{Taken, Leaving, Leaves, Sends, Arrived
 use Rattle.arrivals.specs.declared.arrive.Arrived.the-variants.{By, None}
 use Rattle.arrivals.proofs.Laws.Sending.{Sending, moves-send}
 
-first : {A : Type 0} {Q : A → Type 0} {x : A} {xs : List A} → Every Q (x ∷ xs) → Q x
-first (q also qs) = q
-
 -- What the step sends.
 pub sending : {s out : List ℕ} {st : code.State} {S : State} (h : Held s out st S) (l : Label) (x y : Message) (earlier others : List Move) (w : Move)
     → movesOf l x (S .next) (h .at .placed) ≡ earlier ++ (w ∷ others) → Sending l (st .start) y w
-sending {st = st} h l x y earlier others w e = first (every-parts earlier (rw e at (moves-send (st .start) y (h .judged) l x)) .1)
+sending {st = st} h l x y earlier others w e = every-first (every-parts earlier (rw e at (moves-send (st .start) y (h .judged) l x)) .1)
 
 -- The move, with the message that goes.
 moving : {s out message given taken : List ℕ} {st : code.State} {v : step.Step} {S : State} (h : Held s out st S) (y : Message) (w : Move)

@@ -20,7 +20,7 @@ use Rattle.forms.specs.Visit.{Labelled}
 use Rattle.positions.specs.Located.{Acting, prefixed}
 use Rattle.positions.specs.Joint.{Pair, messageOf, matching}
 use Rattle.positions.specs.Sought.{wanted}
-use Rattle.positions.proofs.Laws.Everywhere.{every-and, every-mapped, every-flatMap}
+use Rattle.positions.proofs.Laws.Everywhere.{every-first, every-and, every-mapped, every-flatMap}
 use Rattle.moves.specs.Spot.{Spot, spots, offersOf, jointsOf}
 use Rattle.moves.specs.Moves.{Move, alone, inside, between, labelled, others, takers, meetings, silentMoves}
 use Rattle.moves.specs.Outcome.{sentBy, outcome}
@@ -120,15 +120,12 @@ module _ (start : ℕ) (y : Message) where
     normal = normalForms (written (w .sender .bound) (messageOf (w .sender .prefix))) .0;
   }
 
-  first : {A : Type 0} {Q : A → Type 0} {x : A} {xs : List A} → Every Q (x ∷ xs) → Q x
-  first (q also qs) = q
-
   sender-small : {k : ℕ} {ps : List Placed} → Every (Judged k) ps → (p : Spot) → Stands ps p → (a : Acting) → Among (offersOf (p .thread) k) a
       → Small a
   sender-small {k} js p s a m =
-      let j = first (every-parts (p .before) (rw (s .parts) at js) .1) in
+      let j = every-first (every-parts (p .before) (rw (s .parts) at js) .1) in
       let all = acting-allowed _ (p .thread .place) _ 0 k (judged-clear (p .thread) 0 j) in
-      first (every-parts (m .before) (rw (m .listed) at all) .1)
+      every-first (every-parts (m .before) (rw (m .listed) at all) .1)
 
   silent-sends : {k : ℕ} {ps : List Placed} → Every (Judged k) ps → (w : Move) → Stood k ps w → Silence w → Sending Silent start y w
   unfolding stepOf runOf carried outcome

@@ -9,7 +9,7 @@ use Rattle.meaning.specs.Messages.Term.{Message, leaf, public, nodes}
 use Rattle.meaning.specs.Messages.Normal.{normal}
 use Rattle.meaning.specs.Bytes.Formula.{Label}
 use Rattle.meaning.specs.Bytes.Scope.{bindsLabel}
-use Rattle.meaning.specs.Places.{Every, none, _also_}
+use Rattle.meaning.specs.Places.{none}
 use Rattle.meaning.specs.Steps.State.{Bound, State, worked}
 use Rattle.meaning.specs.Steps.Invariant.{Stored, BoundStored}
 use Rattle.meaning.specs.Judging.{judge}
@@ -24,6 +24,7 @@ use Rattle.states.specs.declared.state.State as code
 use Rattle.forms.specs.Form.{Forms}
 use Rattle.forms.specs.Visit.{Labelled}
 use Rattle.forms.specs.declared.form.Formed.{Formed}
+use Rattle.positions.proofs.Laws.Everywhere.{every-first}
 use Rattle.moves.specs.Moves.{Move}
 use Rattle.moves.specs.Outcome.{outcome, arrivalOf}
 use Rattle.moves.specs.Step.{stepOf}
@@ -65,10 +66,7 @@ name-stored n = (normalForms (leaf (public 0)) .0, tt)
 
 taken-stored : (a : Label) {n : ℕ} {ρ : Bound} → BoundStored n ρ → Stored n (takenOf ρ a)
 taken-stored (Label.output C) {n} b = name-stored n
-taken-stored (Label.input C M) b = first (worked-below b M none)
-  where
-    first : {Q : Message → Type 0} {x : Message} {xs : List Message} → Every Q (x ∷ xs) → Q x
-    first (q also qs) = q
+taken-stored (Label.input C M) b = every-first (worked-below b M none)
 taken-stored Label.silent {n} b = name-stored n
 
 taken-small : (a : Label) {taken : List ℕ} (ρ : Bound) → (stepLabel a ≡ Input → Labelled taken (takenOf ρ a)) → nodes (takenOf ρ a) ≤ 255
