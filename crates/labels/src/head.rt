@@ -125,8 +125,8 @@ fn silent(at: usize, channel: &mut [u8]) -> Headed
     })
 }
 
-// Works the head of the step formula of a kind, whose fields stand at a position. Its recipes are worked under the messages that are bound at base,
-// in the work bytes from start on, and their messages are written to the front of two slices.
+// Works the head of the step formula of a kind, whose fields stand at a position. Its recipes are worked under the messages that are bound at
+// base, in the work bytes from start on, and their messages are written to the front of two slices.
 pub fn work(
     f: &[u8],
     kind: usize,
