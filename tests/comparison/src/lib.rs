@@ -1,0 +1,8 @@
+//! The library's exported function, compared with the second checker on random findings.
+
+pub mod compare;
+pub mod generator;
+pub mod library;
+pub mod random;
+pub mod run;
+pub mod shares;

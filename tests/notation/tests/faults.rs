@@ -1,0 +1,93 @@
+//! Texts that are no findings: what is said, and about which place. None of them panics.
+
+mod support;
+
+use support::{fault, Random};
+
+#[test]
+fn what_is_said_and_where() {
+    for (text, said) in [
+        ("", "line 1, column 1: expected `first`, found the end of the text"),
+        ("first", "line 1, column 6: expected a process, found the end of the text"),
+        ("first\n  out(0 1)", "line 2, column 9: expected `,`, found `1`"),
+        ("first\n  out(0, 256)", "line 2, column 10: a public name is 0 to 255, found 256"),
+        ("first in(0, 1)", "line 1, column 13: expected a word to bind, found `1`"),
+        ("first new x nil", "line 1, column 13: expected `,` or `.`, found `nil`"),
+        ("first if 0 = 0 then nil second", "line 1, column 25: expected `else`, found `second`"),
+        ("first out(0, nil)", "line 1, column 14: expected a term, found `nil`"),
+        ("first 0", "line 1, column 7: expected a process, found `0`"),
+        ("first then", "line 1, column 7: expected a process, found `then`"),
+        ("first nil nil", "line 1, column 11: expected `second`, found `nil`"),
+        ("first (nil second", "line 1, column 12: expected `)`, found `second`"),
+        ("first nil second nil formula <0> true", "line 1, column 31: expected `out`, `in` or `tau`, found `0`"),
+        ("first nil second nil formula <tau] true", "line 1, column 34: expected `>`, found `]`"),
+        ("first nil second nil formula and", "line 1, column 30: expected a formula, found `and`"),
+        ("first nil second nil formula 0 < 1", "line 1, column 32: expected `=` or `!=`, found `<`"),
+        ("first nil second nil formula true 0", "line 1, column 35: expected the end of the text, found `0`"),
+        (
+            "first nil second nil formula true answer 0 0",
+            "line 1, column 45: expected a number, found the end of the text",
+        ),
+        ("names c = x", "line 1, column 11: expected a number, found `x`"),
+        ("names 1 = c", "line 1, column 7: expected a word for a public name, found `1`"),
+        (
+            "first\n\tout(0, 6A80)",
+            "line 2, column 9: `6A80` is neither a number nor a word: a word starts with a letter",
+        ),
+        ("first out(0, 99999999999)", "line 1, column 14: the number 99999999999 is too large"),
+        ("# é\nfirst é", "line 2, column 7: `é` starts no token"),
+        ("first ; nil", "line 1, column 7: `;` starts no token"),
+    ] {
+        assert_eq!(fault(text).to_string(), said, "{text}");
+    }
+}
+
+#[test]
+fn faults_in_abbreviations_name_both_places() {
+    for (text, said) in [
+        (
+            "Card = out(c, x)\nfirst new c.\n  Card second nil formula true",
+            "line 1, column 15: unknown word `x`: it is no public name, and nothing around binds it \
+             (in `Card`, used at line 3, column 3)",
+        ),
+        (
+            "A = nil nil\nfirst A second nil formula true",
+            "line 1, column 9: expected the end of the abbreviation, found `nil` (in `A`, used at line 2, column 7)",
+        ),
+        (
+            "A =\nfirst A second nil formula true",
+            "line 2, column 1: expected a process, found `first` (in `A`, used at line 2, column 7)",
+        ),
+    ] {
+        assert_eq!(fault(text).to_string(), said, "{text}");
+    }
+}
+
+#[test]
+fn deep_and_large_texts_are_refused() {
+    for unit in ["(", "repl ", "new x, ", "out(0, 0). ", "nil | ", "if 0 = 0 then ", "out(0, fst("] {
+        fault(&format!("first {}", unit.repeat(20_000)));
+    }
+    for unit in ["(", "not ", "<tau> ", "[tau] ", "true and ", "true or ", "fst("] {
+        fault(&format!("first nil second nil formula {}", unit.repeat(20_000)));
+    }
+    let doubling: String = (1..60).map(|i| format!("A{i} = A{} | A{}\n", i - 1, i - 1)).collect();
+    let said = fault(&format!("A0 = nil\n{doubling}first A59 second nil formula true")).message;
+    assert!(said.contains("nodes"), "{said}");
+}
+
+#[test]
+fn no_text_panics() {
+    let pieces = [
+        "first", "second", "formula", "answer", "names", "nil", "new", "out", "in", "if", "then", "else", "let",
+        "repl", "(", ")", ",", ".", "=", "!=", "<", ">", "[", "]", "|", "x", "A", "0", "7", "pair", "not", "and",
+        "tau", "#", "\n",
+    ];
+    let mut random = Random(3);
+    for _ in 0..20_000 {
+        let length = random.below(30);
+        let words: Vec<&str> = (0..length).map(|_| pieces[random.below(pieces.len())]).collect();
+        let _ = notation::read(&words.join(" "));
+        let _ = notation::read(&format!("first {}", words.join(" ")));
+    }
+}
