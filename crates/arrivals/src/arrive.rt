@@ -22,7 +22,7 @@ const MESSAGE: usize = 510;
 
 // Where a step leads that sends the message at the front of a slice. No step sends one that is longer than the slice.
 fn sent(s: &[u8], state: State, step: Step, message: &[u8], m: &mut [u8], out: &mut [u8]) -> Formed
-    requires { ⌜ (length (now s) ≤ 4096) × (state .end ≤ length (now out)) ⌝ }
+    requires { ⌜ (length (now s) ≤ 12288) × (state .end ≤ length (now out)) ⌝ }
     ensures { λ _. ⌜ Within 0 (length (now (m .entry))) (now (m .entry)) (now (m .exit)) ⌝ }
     ensures { λ _. ⌜ Within (state .end) (length (now (out .entry))) (now (out .entry)) (now (out .exit)) ⌝ }
     ensures { λ r. ⌜ Sends (now (s .entry)) (now (message .entry)) state step (now (m .entry)) (now (out .entry)) r (now (out .exit)) ⌝ }
@@ -44,7 +44,7 @@ fn led(
     m: &mut [u8],
     out: &mut [u8],
 ) -> Formed
-    requires { ⌜ (length (now s) ≤ 4096) × (state .end ≤ length (now out)) ⌝ }
+    requires { ⌜ (length (now s) ≤ 12288) × (state .end ≤ length (now out)) ⌝ }
     ensures { λ _. ⌜ Within 0 (length (now (m .entry))) (now (m .entry)) (now (m .exit)) ⌝ }
     ensures { λ _. ⌜ Within (state .end) (length (now (out .entry))) (now (out .entry)) (now (out .exit)) ⌝ }
     ensures { λ r. ⌜ Leaves (now (s .entry)) (now (taken .entry)) (now (message .entry)) state step (now (m .entry)) (now (out .entry)) r (now (out .exit)) ⌝ }
@@ -67,7 +67,7 @@ pub fn next(
     m: &mut [u8],
     out: &mut [u8],
 ) -> Arrived
-    requires { ⌜ (length (now s) ≤ 4096) × (state .end ≤ length (now out)) ⌝ }
+    requires { ⌜ (length (now s) ≤ 12288) × (state .end ≤ length (now out)) ⌝ }
     ensures { λ _. ⌜ Within 0 (length (now (m .entry))) (now (m .entry)) (now (m .exit)) ⌝ }
     ensures { λ _. ⌜ Within (state .end) (length (now (out .entry))) (now (out .entry)) (now (out .exit)) ⌝ }
     ensures { λ r. ⌜ Arrives (now (s .entry)) (now (channel .entry)) (now (taken .entry)) state step (now (m .entry)) (now (out .entry)) r (now (out .exit)) ⌝ }

@@ -6,12 +6,12 @@ use Prim.Native.Nat.{ℕ, _+_, _*_, _≤_, _<_}
 use lib.ListN.{length}
 use Rattle.meaning.specs.Bytes.Process.{Process}
 use Rattle.meaning.specs.Bytes.Standing.{Stands}
-use Rattle.meaning.specs.Bytes.WellFormed.{IsModel}
 use Rattle.meaning.specs.Places.{Every}
 use Rattle.meaning.specs.Steps.State
 use Rattle.meaning.specs.Judging.Limits.{boundNodes, threadNodes, overState}
 use Rattle.meaning.specs.Judging.Visits.{Arrival, startArrival}
 use Rattle.terms.specs.Bound.{BoundTo}
+use Rattle.states.specs.Place.{ProcessAt}
 use Rattle.states.specs.Record.{Placed, encodeRecords, Standing}
 use Rattle.walks.specs.Settled.{threadsOf}
 use Rattle.states.specs.declared.state.State as code
@@ -41,9 +41,14 @@ pub record Forms (s : List ℕ) (begin : ℕ) (A : Arrival) (r : Formed) (out : 
   pub none : overArrival A ≡ true → r ≡ OverLimit
   pub some : overArrival A ≡ false → (st : code.State) × (r ≡ At st) × StateAt s out st (A .state) × (st .aliases ≡ begin)
 
--- The start state of whatever model the slice is.
+-- A model stands in the slice, with its index.
+pub record ModelIn (s : List ℕ) (P : Process) : Type 0 where
+  pub next : ℕ
+  pub process : ProcessAt s 0 64 0 P next
+
+-- The start state of whatever model stands there.
 pub record Starts (s : List ℕ) (begin : ℕ) (r : Formed) (out : List ℕ) : Type 0 where
-  pub exact : (P : Process) → IsModel s P → Forms s begin (startArrival P) r out
+  pub exact : (P : Process) → ModelIn s P → Forms s begin (startArrival P) r out
 
 -- What a walk has come to, as a state with the names that it has made, and as an answer.
 abbrev pub stateOf : Progress → code.State

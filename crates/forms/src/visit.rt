@@ -36,7 +36,7 @@ pub fn visit(
     out: &mut [u8],
     done: Progress,
 ) -> Progress
-    requires { ⌜ (at + 4 ≤ length (now out)) × (length (now s) ≤ 4096) ⌝ }
+    requires { ⌜ (at + 4 ≤ length (now out)) × (length (now s) ≤ 12288) ⌝ }
     ensures { λ r. ⌜ Extends done r ⌝ }
     ensures { λ _. ⌜ Within 0 (length (now (m .entry))) (now (m .entry)) (now (m .exit)) ⌝ }
     ensures { λ _. ⌜ Within (done .state .end) (length (now (out .entry))) (now (out .entry)) (now (out .exit)) ⌝ }

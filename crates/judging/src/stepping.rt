@@ -34,7 +34,7 @@ pub(crate) fn step(
     out: &mut [u8],
     left: u32,
 ) -> Judged
-    requires { ⌜ (length (now s) ≤ 4096) × (65536 ≤ length (now out)) × (state .end ≤ 50592) × (state .aliases ≤ state .end) ⌝ }
+    requires { ⌜ (length (now s) ≤ 12288) × (65536 ≤ length (now out)) × (state .end ≤ 50592) × (state .aliases ≤ state .end) ⌝ }
     ensures { λ _. ⌜ length (now (m .exit)) ≡ length (now (m .entry)) ⌝ }
     ensures { λ _. ⌜ length (now (out .exit)) ≡ length (now (out .entry)) ⌝ }
     ensures { λ r. ⌜ Less (left + 1) r ⌝ }
@@ -85,7 +85,7 @@ fn steps(
     out: &mut [u8],
     left: u32,
 ) -> Judged
-    requires { ⌜ (length (now s) ≤ 4096) × (65536 ≤ length (now out)) × (state .end ≤ 50592) × (state .aliases ≤ state .end) ⌝ }
+    requires { ⌜ (length (now s) ≤ 12288) × (65536 ≤ length (now out)) × (state .end ≤ 50592) × (state .aliases ≤ state .end) ⌝ }
     ensures { λ _. ⌜ length (now (m .exit)) ≡ length (now (m .entry)) ⌝ }
     ensures { λ _. ⌜ length (now (out .exit)) ≡ length (now (out .entry)) ⌝ }
     ensures { λ r. ⌜ Less (left + 1) r ⌝ }
@@ -126,7 +126,7 @@ fn turn(
     out: &mut [u8],
     sum: Sum,
 ) -> Turn
-    requires { ⌜ (length (now s) ≤ 4096) × (65536 ≤ length (now out)) × (state .end ≤ 50592) × (state .aliases ≤ state .end) ⌝ }
+    requires { ⌜ (length (now s) ≤ 12288) × (65536 ≤ length (now out)) × (state .end ≤ 50592) × (state .aliases ≤ state .end) ⌝ }
     ensures { λ _. ⌜ length (now (m .exit)) ≡ length (now (m .entry)) ⌝ }
     ensures { λ _. ⌜ length (now (out .exit)) ≡ length (now (out .entry)) ⌝ }
     ensures { λ r. ⌜ Falls (sum .left) r ⌝ }

@@ -6,7 +6,6 @@ use Rattle.meaning.specs.Bytes.Number.{Read, found}
 use Rattle.meaning.specs.Bytes.Standing.{Stands}
 use Rattle.meaning.proofs.Bytes.Reader.{Only, holds, fails}
 use Rattle.meaning.proofs.Bytes.Reading.Term.{term-sound}
-use Rattle.meaning.proofs.Bytes.Reading.Process.{process-sound}
 use Rattle.meaning.proofs.Bytes.Reading.Formula.{formula-sound}
 use Rattle.numbers.specs.Answer.{extent}
 use Rattle.layouts.specs.Ends.{EndOf}
@@ -23,6 +22,5 @@ ends-agree (fails t) stands e h = never (cc)
 pub endsAgree : EndsAgree
 endsAgree s bytes left scope at end r = (
   ends-agree (term-sound bytes left scope at) (λ t e p. p.0),
-  λ small. ends-agree (process-sound bytes left scope at small) (λ P e p. p.0),
   λ steps. ends-agree (formula-sound bytes left steps scope at) (λ F e p. p.0),
 )

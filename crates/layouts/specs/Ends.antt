@@ -3,7 +3,7 @@ use mathlib.Core.Path.{_≡_}
 use mathlib.Core.List.{List, [], _∷_, _++_}
 use Prim.Native.Nat.{ℕ}
 use lib.ListN.{length}
-use Rattle.meaning.specs.Bytes.Encoding.{encodeNumber, encodeTerm, encodeProcess, encodeFormula}
+use Rattle.meaning.specs.Bytes.Encoding.{encodeNumber, encodeTerm, encodeFormula}
 use Rattle.meaning.specs.Bytes.Standing.{Stands}
 
 -- The bytes of each, one after the other.
@@ -29,9 +29,6 @@ TermEnd = EndOf encodeTerm
 
 abbrev pub TermsEnd : List ℕ → (at count r : ℕ) → Type 0
 TermsEnd = RowEnd encodeTerm
-
-abbrev pub ProcessEnd : List ℕ → (at r : ℕ) → Type 0
-ProcessEnd = EndOf encodeProcess
 
 abbrev pub FormulaEnd : List ℕ → (at r : ℕ) → Type 0
 FormulaEnd = EndOf encodeFormula

@@ -2,17 +2,16 @@
 -- letter. Assumes nothing.
 use mathlib.Core.Path.{_≡_}
 use mathlib.Core.List.{List}
-use Prim.Native.Nat.{ℕ, _≤_}
+use Prim.Native.Nat.{ℕ}
 use Rattle.meaning.specs.Bytes.Number.{found}
 use Rattle.meaning.specs.Bytes.WellFormed.{Bytes}
-use Rattle.meaning.specs.Bytes.Reading.{term, process, formula}
+use Rattle.meaning.specs.Bytes.Reading.{term, formula}
 use Rattle.numbers.specs.Answer.{extent}
-use Rattle.layouts.specs.Ends.{TermEnd, ProcessEnd, FormulaEnd}
+use Rattle.layouts.specs.Ends.{TermEnd, FormulaEnd}
 
--- Where something is read, with at most 12 variables in scope of a process, its end is the one that the reader found.
+-- Where a term or a formula is read, its end is the one that the reader found.
 abbrev pub EndsAgree : Type 0
 EndsAgree =
     (s : List ℕ) → Bytes s → (left scope at end r : ℕ)
     → (extent (term left scope s at) ≡ found tt end → TermEnd s at r → r ≡ end)
-    × (scope ≤ 12 → extent (process left scope s at) ≡ found tt end → ProcessEnd s at r → r ≡ end)
     × ((steps : ℕ) → extent (formula left steps scope s at) ≡ found tt end → FormulaEnd s at r → r ≡ end)

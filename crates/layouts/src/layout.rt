@@ -14,54 +14,48 @@ pub const PROCESS_KINDS: usize = 8;
 
 pub const FORMULA_KINDS: usize = 6;
 
-const TERMS: [Layout; TERM_KINDS] = [
-    Layout(1, 0, 0, 0), // public name
-    Layout(1, 0, 0, 0), // variable, or alias
-    Layout(0, 0, 0, 2), // pair
-    Layout(0, 0, 0, 1), // fst
-    Layout(0, 0, 0, 1), // snd
-    Layout(0, 0, 0, 2), // enc
-    Layout(0, 0, 0, 2), // dec
-    Layout(0, 0, 0, 2), // mac
-];
-
-const PROCESSES: [Layout; PROCESS_KINDS] = [
-    Layout(0, 0, 0, 0), // nil
-    Layout(0, 1, 0, 1), // new
-    Layout(2, 0, 0, 1), // output
-    Layout(1, 1, 0, 1), // input
-    Layout(2, 0, 0, 2), // if
-    Layout(1, 1, 0, 1), // let
-    Layout(0, 0, 0, 2), // par
-    Layout(0, 0, 0, 1), // repl
-];
-
-const FORMULAS: [Layout; FORMULA_KINDS] = [
-    Layout(2, 0, 0, 0), // equal
-    Layout(0, 0, 0, 1), // not
-    Layout(0, 0, 0, 2), // and
-    Layout(1, 1, 1, 1), // output step
-    Layout(2, 0, 1, 1), // input step
-    Layout(0, 0, 1, 1), // silent step
-];
-
 pub fn term(k: usize) -> Layout
     requires { ⌜ k < 8 ⌝ }
     ensures { λ r. ⌜ r ≡ layoutOf termLayouts k ⌝ }
 {
-    TERMS[k]
+    match k {
+        0 => Layout(1, 0, 0, 0), // public name
+        1 => Layout(1, 0, 0, 0), // variable, or alias
+        2 => Layout(0, 0, 0, 2), // pair
+        3 => Layout(0, 0, 0, 1), // fst
+        4 => Layout(0, 0, 0, 1), // snd
+        5 => Layout(0, 0, 0, 2), // enc
+        6 => Layout(0, 0, 0, 2), // dec
+        _ => Layout(0, 0, 0, 2), // mac
+    }
 }
 
 pub fn process(k: usize) -> Layout
     requires { ⌜ k < 8 ⌝ }
     ensures { λ r. ⌜ r ≡ layoutOf processLayouts k ⌝ }
 {
-    PROCESSES[k]
+    match k {
+        0 => Layout(0, 0, 0, 0), // nil
+        1 => Layout(0, 1, 0, 1), // new
+        2 => Layout(2, 0, 0, 1), // output
+        3 => Layout(1, 1, 0, 1), // input
+        4 => Layout(2, 0, 0, 2), // if
+        5 => Layout(1, 1, 0, 1), // let
+        6 => Layout(0, 0, 0, 2), // par
+        _ => Layout(0, 0, 0, 1), // repl
+    }
 }
 
 pub fn formula(k: usize) -> Layout
     requires { ⌜ k < 6 ⌝ }
     ensures { λ r. ⌜ r ≡ layoutOf formulaLayouts k ⌝ }
 {
-    FORMULAS[k]
+    match k {
+        0 => Layout(2, 0, 0, 0), // equal
+        1 => Layout(0, 0, 0, 1), // not
+        2 => Layout(0, 0, 0, 2), // and
+        3 => Layout(1, 1, 1, 1), // output step
+        4 => Layout(2, 0, 1, 1), // input step
+        _ => Layout(0, 0, 1, 1), // silent step
+    }
 }

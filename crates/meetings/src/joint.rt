@@ -24,7 +24,7 @@ fn find(
     copy: usize,
     out: &mut [u8],
 ) -> Progress
-    requires { ⌜ (at + 4 ≤ length (now out)) × (length (now s) ≤ 4096) ⌝ }
+    requires { ⌜ (at + 4 ≤ length (now out)) × (length (now s) ≤ 12288) ⌝ }
     ensures { λ _. ⌜ Within 0 (length (now (m .entry))) (now (m .entry)) (now (m .exit)) ⌝ }
     ensures { λ _. ⌜ Within to (length (now (out .entry))) (now (out .entry)) (now (out .exit)) ⌝ }
     ensures { λ r. ⌜ Finds (now (s .entry)) at names to (now (m .entry)) copy (now (out .entry)) r ⌝ }
@@ -57,7 +57,7 @@ pub fn joint(
     out: &mut [u8],
     message: &mut [u8],
 ) -> Next
-    requires { ⌜ (length (now s) ≤ 4096) × (to ≤ length (now out)) ⌝ }
+    requires { ⌜ (length (now s) ≤ 12288) × (to ≤ length (now out)) ⌝ }
     ensures { λ _. ⌜ Within 0 (length (now (m .entry))) (now (m .entry)) (now (m .exit)) ⌝ }
     ensures { λ _. ⌜ Within to (length (now (out .entry))) (now (out .entry)) (now (out .exit)) ⌝ }
     ensures { λ _. ⌜ length (now (message .exit)) ≡ length (now (message .entry)) ⌝ }
@@ -91,7 +91,7 @@ fn pass(
     out: &mut [u8],
     message: &mut [u8],
 ) -> Next
-    requires { ⌜ (length (now s) ≤ 4096) × (at + 4 ≤ to) × (to ≤ length (now out)) ⌝ }
+    requires { ⌜ (length (now s) ≤ 12288) × (at + 4 ≤ to) × (to ≤ length (now out)) ⌝ }
     ensures { λ _. ⌜ Within 0 (length (now (m .entry))) (now (m .entry)) (now (m .exit)) ⌝ }
     ensures { λ _. ⌜ Within to (length (now (out .entry))) (now (out .entry)) (now (out .exit)) ⌝ }
     ensures { λ _. ⌜ length (now (message .exit)) ≡ length (now (message .entry)) ⌝ }

@@ -13,11 +13,6 @@ pub const ENC: usize = 5;
 
 pub const DEC: usize = 6;
 
-// How many parts the kinds have, in the order of their numbers. Names, whose numbers are larger, have none.
-const KINDS: usize = 8;
-
-const PARTS: [usize; KINDS] = [0, 0, 2, 1, 1, 2, 2, 2];
-
 // A byte as a wider number.
 pub fn wide(b: u8) -> usize
     ensures { λ r. ⌜ r ≡ b ⌝ }
@@ -39,10 +34,17 @@ pub fn number(m: &[u8], at: usize) -> usize
 pub fn parts(number: usize) -> usize
     ensures { λ r. ⌜ r ≡ partsOf number ⌝ }
 {
-    if number < KINDS {
-        return PARTS[number];
+    match number {
+        0 => 0,
+        1 => 0,
+        2 => 2, // pair
+        3 => 1, // fst
+        4 => 1, // snd
+        5 => 2, // enc
+        6 => 2, // dec
+        7 => 2, // mac
+        _ => 0, // a name
     }
-    0
 }
 
 // Writes the number of a node at a position.

@@ -1,2 +1,3 @@
 pub mod Hand
 pub mod Seek
+pub mod Pass

@@ -4,9 +4,10 @@ use mathlib.Core.Bool.{true, false}
 use mathlib.Core.List.{List, [], _∷_}
 use Prim.Native.Nat.{ℕ, _+_, _≤_}
 use lib.Dec.{eqb}
-use lib.ListN.{length}
+use lib.ListN.{length, getD}
 use Rattle.meaning.specs.Messages.Term.{Message}
 use Rattle.meaning.specs.Bytes.Standing.{Stands}
+use Rattle.nodes.specs.Encoding.{numberAt}
 use Rattle.states.specs.Record.{Placed, encodeRecord}
 use Rattle.states.specs.Course.{going}
 use Rattle.states.specs.Shown.{ShowsCourse, encodeMessages}
@@ -56,12 +57,17 @@ ShowsSight out r (seen at a) = Sees out r at a
 pub record Looks (s label : List ℕ) (at to : ℕ) (m : List ℕ) (q : Quest) (names : ℕ) (out : List ℕ) (r : Progress) (after : List ℕ)
     : Type 0 where
   pub exact : (t : Placed) (x : Message) {k next : ℕ} → RecordAt s out at t next → Judged k t → k ≤ names → q .but ≡ 0 → Labelled label x
-      → length s ≤ 4096 → 10750 ≤ length m → to + 3964 ≤ length out → names ≤ 28664
+      → length s ≤ 12288 → 10750 ≤ length m → to + 3964 ≤ length out → names ≤ 28664
       → ShowsCourse s after r (first q x (offersOf t names) (going (nothingYet names)))
+
+-- The same, if its process stands at the position place and is no repl.
+pub record Alone (s label : List ℕ) (at place to : ℕ) (m : List ℕ) (q : Quest) (names : ℕ) (out : List ℕ) (r : Progress) (after : List ℕ)
+    : Type 0 where
+  pub exact : place ≡ numberAt out at → (getD s place 0 ≡ 7 → ⊥) → Looks s label at to m q names out r after
 
 -- Whatever threads stand from a position to another, the answer and the bytes show the first offer among them.
 pub record Seeks (s label : List ℕ) (at to : ℕ) (m : List ℕ) (q : Quest) (skip names : ℕ) (out : List ℕ) (r : Sighting) (after : List ℕ)
     : Type 0 where
   pub exact : (ps : List Placed) (x : Message) {k : ℕ} → Threads s out at k ps to → k ≤ names → q .but ≡ 0 → Labelled label x
-      → length s ≤ 4096 → 10750 ≤ length m → to + 3964 ≤ length out → names ≤ 28664
+      → length s ≤ 12288 → 10750 ≤ length m → to + 3964 ≤ length out → names ≤ 28664
       → ShowsSight after r (firstAmong q x names skip at ps)

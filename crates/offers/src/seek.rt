@@ -1,32 +1,26 @@
 // The next offer among the threads of a state that stands in the work bytes ("Steps").
+use crate::pass;
 use forms::visit;
 use nodes::node;
 use states::progress::Progress;
 use states::state::State;
+use states::stored;
 use threads::task::Quest;
 use threads::task::Task;
+use threads::thread;
 ghost use mathlib.Core.Path.{_≡_};
-ghost use Prim.Native.Nat.{_+_, _≤_};
+ghost use Prim.Native.Nat.{_+_, _≤_, _<_};
 ghost use lib.ListN.{length};
 ghost use Rattle.nodes.specs.Buffer.{Within};
-ghost use Rattle.offers.specs.Seek.{afresh, Looks, Seeks};
+ghost use Rattle.offers.specs.Seek.{Looks, Alone, Seeks};
+
+// How many bytes above the bound messages may be needed to work terms.
+const REACH: usize = 4606;
 
 // An offer: where the record of its thread stands, and what the walk over that thread found. Its mark is 0 where there is none.
 pub struct Sighting {
     pub at: usize,
     pub done: Progress,
-}
-
-// The same quest from the first offer of a thread on.
-fn afresh(quest: Quest) -> Quest
-    ensures { λ r. ⌜ r ≡ afresh quest ⌝ }
-{
-    Quest {
-        output: quest.output,
-        any: quest.any,
-        from: 0,
-        but: quest.but,
-    }
 }
 
 // No offer.
@@ -45,7 +39,34 @@ fn nothing(at: usize, to: usize, names: usize) -> Sighting
     }
 }
 
-// The first offer of the thread whose record stands at a position. The walk goes on where there is none.
+// The offer of a thread that acts by itself, whose record stands at one position and its process at another. The walk goes on where it is not
+// sought.
+fn alone(
+    s: &[u8],
+    label: &[u8],
+    at: usize,
+    place: usize,
+    to: usize,
+    m: &mut [u8],
+    quest: Quest,
+    names: usize,
+    out: &mut [u8],
+) -> Progress
+    requires { ⌜ (at + 4 ≤ length (now out)) × (place < length (now s)) × (length (now s) ≤ 12288) ⌝ }
+    ensures { λ _. ⌜ Within 0 (length (now (m .entry))) (now (m .entry)) (now (m .exit)) ⌝ }
+    ensures { λ _. ⌜ Within to (length (now (out .entry))) (now (out .entry)) (now (out .exit)) ⌝ }
+    ensures { λ r. ⌜ Alone (now (s .entry)) (now (label .entry)) at place to (now (m .entry)) quest names (now (out .entry)) r (now (out .exit)) ⌝ }
+{
+    let begun = visit::begin(to, names);
+    let end = stored::load(out, at, m).end;
+    if m.len() - end < REACH {
+        return begun;
+    }
+    thread::seek(s, label, place, m, end, quest, names, out, begun)
+}
+
+// The first offer of the thread whose record stands at a position: its own, or one of its copies, which are walked over. The walk goes on
+// where there is none.
 fn look(
     s: &[u8],
     label: &[u8],
@@ -56,20 +77,27 @@ fn look(
     names: usize,
     out: &mut [u8],
 ) -> Progress
-    requires { ⌜ (at + 4 ≤ length (now out)) × (length (now s) ≤ 4096) ⌝ }
+    requires { ⌜ (at + 4 ≤ length (now out)) × (length (now s) ≤ 12288) ⌝ }
     ensures { λ _. ⌜ Within 0 (length (now (m .entry))) (now (m .entry)) (now (m .exit)) ⌝ }
     ensures { λ _. ⌜ Within to (length (now (out .entry))) (now (out .entry)) (now (out .exit)) ⌝ }
     ensures { λ r. ⌜ Looks (now (s .entry)) (now (label .entry)) at to (now (m .entry)) quest names (now (out .entry)) r (now (out .exit)) ⌝ }
 {
-    visit::visit(
-        s,
-        label,
-        at,
-        m,
-        Task::Seek(quest, names),
-        out,
-        visit::begin(to, names),
-    )
+    let place = node::number(out, at);
+    if s.len() <= place {
+        return visit::begin(to, names);
+    }
+    if node::wide(s[place]) == pass::REPL {
+        return visit::visit(
+            s,
+            label,
+            at,
+            m,
+            Task::Seek(quest, names),
+            out,
+            visit::begin(to, names),
+        );
+    }
+    alone(s, label, at, place, to, m, quest, names, out)
 }
 
 // The first offer of a quest among the threads whose records stand from a position to another, which is the end of the state: what the walks
@@ -85,25 +113,27 @@ pub fn seek(
     names: usize,
     out: &mut [u8],
 ) -> Sighting
-    requires { ⌜ (length (now s) ≤ 4096) × (to ≤ length (now out)) ⌝ }
+    requires { ⌜ (length (now s) ≤ 12288) × (to ≤ length (now out)) ⌝ }
     ensures { λ _. ⌜ Within 0 (length (now (m .entry))) (now (m .entry)) (now (m .exit)) ⌝ }
     ensures { λ _. ⌜ Within to (length (now (out .entry))) (now (out .entry)) (now (out .exit)) ⌝ }
     ensures { λ r. ⌜ Seeks (now (s .entry)) (now (label .entry)) at to (now (m .entry)) quest skip names (now (out .entry)) r (now (out .exit)) ⌝ }
 {
-    if to <= at {
+    if to < 4 {
         return nothing(at, to, names);
     }
-    if to - at < 4 {
-        return nothing(at, to, names);
+    let last = to - 4;
+    let first = pass::pass(s, label, at, to, quest, skip, out);
+    let mut i = first.at;
+    let mut here = first.quest;
+    while i <= last {
+        let done = look(s, label, i, to, m, here, names, out);
+        let going = done.going;
+        if !going {
+            return Sighting { at: i, done: done };
+        }
+        let further = pass::behind(s, label, i, to, here, skip, out);
+        i = further.at;
+        here = further.quest;
     }
-    let next = at + 4 + node::number(out, at + 2);
-    let later = afresh(quest);
-    if at == skip {
-        return seek(s, label, next, to, m, later, skip, names, out);
-    }
-    let done = look(s, label, at, to, m, quest, names, out);
-    if done.going {
-        return seek(s, label, next, to, m, later, skip, names, out);
-    }
-    Sighting { at: at, done: done }
+    nothing(i, to, names)
 }

@@ -6,8 +6,7 @@ use mathlib.Core.List.{List, []}
 use Prim.Native.Nat.{ℕ, _+_}
 use lib.Dec.{ltb, eqb}
 use Rattle.meaning.specs.Bytes.Process.{Process}
-use Rattle.meaning.specs.Bytes.Encoding.{encodeProcess}
-use Rattle.meaning.specs.Bytes.Standing.{Stands}
+use Rattle.indexes.specs.Index.{InModel}
 use Rattle.meaning.specs.Steps.State.{Bound, repl}
 use Rattle.terms.specs.Bound.{BoundTo}
 use Rattle.states.specs.Record.{Standing}
@@ -122,7 +121,7 @@ performed c at ρ P copy g = further (inCopies c copy (firstly (c .own) at ρ P 
 
 -- The answer is the one of trees, whatever process stands behind the repl at a position.
 pub record Decided (A : Type 0) (s : List ℕ) (at : ℕ) (f : Process → A) (r : A) : Type 0 where
-  pub exact : (P : Process) {next : ℕ} → Stands s (at + 1) (encodeProcess P) next → r ≡ f P
+  pub exact : (P : Process) {next : ℕ} → InModel s (at + 1) P next → r ≡ f P
 
 -- Whatever repl thread has its process at the position at and its messages up to the position end, what is done with it comes first; or last.
 pub record Begins (own : Own) (m : List ℕ) (end at : ℕ) (out : List ℕ) (now r : Progress) (after : List ℕ) : Type 0 where

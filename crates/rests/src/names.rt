@@ -27,7 +27,7 @@ pub fn rest_names(
     m: &mut [u8],
     out: &mut [u8],
 ) -> Rests
-    requires { ⌜ (length (now s) ≤ 4096) × (state .end ≤ length (now out)) ⌝ }
+    requires { ⌜ (length (now s) ≤ 12288) × (state .end ≤ length (now out)) ⌝ }
     ensures { λ _. ⌜ Within 0 (length (now (m .entry))) (now (m .entry)) (now (m .exit)) ⌝ }
     ensures { λ _. ⌜ Within (state .end) (length (now (out .entry))) (now (out .entry)) (now (out .exit)) ⌝ }
     ensures { λ r. ⌜ Settles (now (s .entry)) state step (now (message .entry)) (now (m .entry)) (now (out .entry)) r ⌝ }
@@ -51,7 +51,7 @@ fn silent_names(
     m: &mut [u8],
     out: &mut [u8],
 ) -> Rests
-    requires { ⌜ (length (now s) ≤ 4096) × (state .end ≤ length (now out)) ⌝ }
+    requires { ⌜ (length (now s) ≤ 12288) × (state .end ≤ length (now out)) ⌝ }
     ensures { λ _. ⌜ Within 0 (length (now (m .entry))) (now (m .entry)) (now (m .exit)) ⌝ }
     ensures { λ _. ⌜ Within (state .end) (length (now (out .entry))) (now (out .entry)) (now (out .exit)) ⌝ }
     ensures { λ r. ⌜ SettlesSilent (now (s .entry)) state step (now (message .entry)) (now (m .entry)) (now (out .entry)) r ⌝ }
@@ -94,7 +94,7 @@ fn after(
     m: &mut [u8],
     out: &mut [u8],
 ) -> Counted
-    requires { ⌜ (length (now s) ≤ 4096) × (state .end ≤ length (now out)) ⌝ }
+    requires { ⌜ (length (now s) ≤ 12288) × (state .end ≤ length (now out)) ⌝ }
     ensures { λ _. ⌜ Within 0 (length (now (m .entry))) (now (m .entry)) (now (m .exit)) ⌝ }
     ensures { λ _. ⌜ Within (state .end) (length (now (out .entry))) (now (out .entry)) (now (out .exit)) ⌝ }
     ensures { λ r. ⌜ CountsActor (now (s .entry)) state actor (state .names) names (now (message .entry)) (now (m .entry)) (now (out .entry)) r ⌝ }
@@ -141,7 +141,7 @@ fn after_taker(
     m: &mut [u8],
     out: &mut [u8],
 ) -> Counted
-    requires { ⌜ (length (now s) ≤ 4096) × (state .end ≤ length (now out)) ⌝ }
+    requires { ⌜ (length (now s) ≤ 12288) × (state .end ≤ length (now out)) ⌝ }
     ensures { λ _. ⌜ Within 0 (length (now (m .entry))) (now (m .entry)) (now (m .exit)) ⌝ }
     ensures { λ _. ⌜ Within (state .end) (length (now (out .entry))) (now (out .entry)) (now (out .exit)) ⌝ }
     ensures { λ r. ⌜ CountsTaker (now (s .entry)) state step names (now (message .entry)) (now (m .entry)) (now (out .entry)) r ⌝ }

@@ -25,7 +25,7 @@ fn arrive(
     mark: usize,
     out: &mut [u8],
 ) -> Reached
-    requires { ⌜ (at + 4 ≤ length (now out)) × (length (now s) ≤ 4096) ⌝ }
+    requires { ⌜ (at + 4 ≤ length (now out)) × (length (now s) ≤ 12288) ⌝ }
     ensures { λ r. ⌜ r .end ≤ length (now (m .exit)) ⌝ }
     ensures { λ _. ⌜ Within 0 (length (now (m .entry))) (now (m .entry)) (now (m .exit)) ⌝ }
     ensures { λ _. ⌜ Within to (length (now (out .entry))) (now (out .entry)) (now (out .exit)) ⌝ }
@@ -59,7 +59,7 @@ fn enter(
     mark: usize,
     out: &mut [u8],
 ) -> Reached
-    requires { ⌜ (thread .end ≤ length (now m)) × (length (now s) ≤ 4096) ⌝ }
+    requires { ⌜ (thread .end ≤ length (now m)) × (length (now s) ≤ 12288) ⌝ }
     ensures { λ r. ⌜ r .end ≤ length (now (m .exit)) ⌝ }
     ensures { λ _. ⌜ Within 0 (length (now (m .entry))) (now (m .entry)) (now (m .exit)) ⌝ }
     ensures { λ _. ⌜ Within to (length (now (out .entry))) (now (out .entry)) (now (out .exit)) ⌝ }
@@ -112,7 +112,7 @@ fn behind(
     names: usize,
     out: &mut [u8],
 ) -> Counted
-    requires { ⌜ (offer .end ≤ length (now m)) × (length (now s) ≤ 4096) ⌝ }
+    requires { ⌜ (offer .end ≤ length (now m)) × (length (now s) ≤ 12288) ⌝ }
     ensures { λ _. ⌜ Within 0 (length (now (m .entry))) (now (m .entry)) (now (m .exit)) ⌝ }
     ensures { λ _. ⌜ Within to (length (now (out .entry))) (now (out .entry)) (now (out .exit)) ⌝ }
     ensures { λ r. ⌜ CountsBehind (now (s .entry)) (now (label .entry)) offer to (now (m .entry)) names (now (out .entry)) r ⌝ }
@@ -145,7 +145,7 @@ fn count_copy(
     names: usize,
     out: &mut [u8],
 ) -> Counted
-    requires { ⌜ (thread .end ≤ length (now m)) × (length (now s) ≤ 4096) ⌝ }
+    requires { ⌜ (thread .end ≤ length (now m)) × (length (now s) ≤ 12288) ⌝ }
     ensures { λ _. ⌜ Within 0 (length (now (m .entry))) (now (m .entry)) (now (m .exit)) ⌝ }
     ensures { λ _. ⌜ Within to (length (now (out .entry))) (now (out .entry)) (now (out .exit)) ⌝ }
     ensures { λ r. ⌜ CountsCopy (now (s .entry)) (now (label .entry)) thread to (now (m .entry)) copy mark names (now (out .entry)) r ⌝ }
@@ -167,7 +167,7 @@ pub fn count(
     names: usize,
     out: &mut [u8],
 ) -> Counted
-    requires { ⌜ (at + 4 ≤ length (now out)) × (length (now s) ≤ 4096) ⌝ }
+    requires { ⌜ (at + 4 ≤ length (now out)) × (length (now s) ≤ 12288) ⌝ }
     ensures { λ _. ⌜ Within 0 (length (now (m .entry))) (now (m .entry)) (now (m .exit)) ⌝ }
     ensures { λ _. ⌜ Within to (length (now (out .entry))) (now (out .entry)) (now (out .exit)) ⌝ }
     ensures { λ r. ⌜ Counts (now (s .entry)) (now (label .entry)) at opens to (now (m .entry)) mark names (now (out .entry)) r ⌝ }
@@ -189,7 +189,7 @@ pub fn count_in(
     names: usize,
     out: &mut [u8],
 ) -> Counted
-    requires { ⌜ (at + 4 ≤ length (now out)) × (length (now s) ≤ 4096) ⌝ }
+    requires { ⌜ (at + 4 ≤ length (now out)) × (length (now s) ≤ 12288) ⌝ }
     ensures { λ _. ⌜ Within 0 (length (now (m .entry))) (now (m .entry)) (now (m .exit)) ⌝ }
     ensures { λ _. ⌜ Within to (length (now (out .entry))) (now (out .entry)) (now (out .exit)) ⌝ }
     ensures { λ r. ⌜ CountsIn (now (s .entry)) (now (label .entry)) at opens to (now (m .entry)) copy mark names (now (out .entry)) r ⌝ }

@@ -8,14 +8,18 @@ use Rattle.meaning.specs.Bytes.Encoding.{encodeTerm, encodeProcess}
 use Rattle.meaning.specs.Bytes.Nesting.{processTerms, processDepth, variables}
 use Rattle.meaning.specs.Bytes.Scope.{ProcessScoped}
 use Rattle.meaning.specs.Bytes.Standing.{Stands}
+use Rattle.indexes.specs.Index.{Indexed}
 
--- A process stands in s from at to next, with every variable in scope, at most left nodes on a path, and at most 12 variables.
+-- A process stands in s from at to next, among the bytes of the model and with its ends in the index, with every variable in scope, at most
+-- left nodes on a path, and at most 12 variables.
 pub record ProcessAt (s : List ℕ) (at left scope : ℕ) (P : Process) (next : ℕ) : Type 0 where
   pub stands : Stands s at (encodeProcess P) next
   pub deep : processDepth P ≤ left
   pub terms : processTerms P ≤ 8
   pub scoped : ProcessScoped scope P
   pub few : scope + variables P ≤ 12
+  pub indexed : Indexed s at P
+  pub inside : next ≤ 4096
 
 -- Where the processes of an `if`, a `let` and a `par` stand that stands at a position.
 abbrev pub thenAt : ℕ → (M N : Term) → ℕ

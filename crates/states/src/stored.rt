@@ -1,16 +1,10 @@
-// The threads of a state that stands in the work bytes: one is loaded to be walked over, others are kept for the next state ("Steps").
-use crate::progress;
-use crate::progress::Progress;
-use crate::record;
-use crate::state;
-use crate::state::Grown;
+// A thread of a state that stands in the work bytes, loaded to be walked over ("Steps").
 use nodes::node;
 use nodes::run;
 ghost use Prim.Native.Nat.{_+_, _≤_};
 ghost use lib.ListN.{length};
 ghost use Rattle.nodes.specs.Buffer.{Within};
-ghost use Rattle.states.specs.Progress.{Extends};
-ghost use Rattle.states.specs.Stored.{Fetched, Loads, Keeps};
+ghost use Rattle.states.specs.Stored.{Fetched, Loads};
 
 // A thread that was loaded: where its process stands in the model, where its messages end in the bytes m, and where its record ends.
 pub struct Loaded {
@@ -56,40 +50,5 @@ pub fn load(out: &[u8], at: usize, m: &mut [u8]) -> Loaded
         place: place,
         end: size,
         next: at + 4 + size,
-    }
-}
-
-// The thread whose record stands at a position, written once more behind the others of the state that is being written.
-pub fn keep(out: &mut [u8], at: usize, done: Progress) -> Progress
-    requires { ⌜ at + 4 ≤ length (now out) ⌝ }
-    ensures { λ r. ⌜ Extends done r ⌝ }
-    ensures { λ _. ⌜ Within (done .state .end) (length (now (out .entry))) (now (out .entry)) (now (out .exit)) ⌝ }
-    ensures { λ r. ⌜ Keeps (now (out .entry)) at done r (now (out .exit)) ⌝ }
-{
-    let state = done.state;
-    let last = state.end;
-    let size = node::number(out, at + 2);
-    if last < at + 4 + size {
-        return progress::stop(done);
-    }
-    if out.len() < last {
-        return progress::stop(done);
-    }
-    let nodes = record::nodes(&out[at + 4..at + 4 + size]);
-    if out.len() - last < 4 + size {
-        return progress::stop(done);
-    }
-    match state::grow(state, nodes, size, out.len()) {
-        Grown::To(further) => {
-            run::copy(out, at, last, 4 + size);
-            Progress {
-                going: true,
-                names: done.names,
-                mark: 0,
-                sent: 0,
-                state: further,
-            }
-        }
-        Grown::Full => progress::stop(done),
     }
 }

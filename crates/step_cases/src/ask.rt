@@ -10,8 +10,8 @@ use steps::next;
 use successors::lead;
 ghost use Prim.Native.Nat.{_≤_};
 
-// The longest model, and the most steps of a label that are counted.
-const MODEL: usize = 4096;
+// The longest model with its index, and the most steps of a label that are counted.
+const MODEL: usize = 12288;
 
 const STEPS: usize = 4096;
 

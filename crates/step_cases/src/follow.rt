@@ -6,20 +6,23 @@ use crate::label::MESSAGE;
 use crate::tell;
 use forms::form;
 use forms::form::Formed;
+use indexes::index;
 use moves::step::Label;
 use moves::step::Step;
 use states::state::State;
 use steps::next;
+ghost use mathlib.Core.Path.{_≡_};
 ghost use Prim.Native.Nat.{_≤_, _<_};
 ghost use lib.ListN.{length};
 
 // The most levels.
 const LEVELS: usize = 16;
 
-// Writes the start state of a model, and follows the labels from it.
-pub(crate) fn start(s: &[u8], labels: &[u8], m: &mut [u8], out: &mut [u8])
-    requires { ⌜ (length (now s) ≤ 4096) × (10750 ≤ length (now m)) × (3964 ≤ length (now out)) ⌝ }
+// Writes the start state of a model, which is put into a slice with its index, and follows the labels from it.
+pub(crate) fn start(model: &[u8], s: &mut [u8], labels: &[u8], m: &mut [u8], out: &mut [u8])
+    requires { ⌜ (length (now model) ≤ 4096) × (length (now s) ≡ 12288) × (10750 ≤ length (now m)) × (3964 ≤ length (now out)) ⌝ }
 {
+    index::build(model, s);
     arrive(s, labels, 0, LEVELS, 0, form::start(s, m, out, 0), m, out);
 }
 

@@ -14,6 +14,7 @@ mod label;
 mod tell;
 mod text;
 
+use indexes::index;
 use libc::STDIN_FILENO;
 use libc::STDOUT_FILENO;
 
@@ -64,5 +65,12 @@ fn answer(model: &[u8], told: &[u8], m: &mut [u8; BOUND], out: &mut [u8; 65536])
     let mut labels = [0u8; 64];
     let n = text::spell(model, &mut s);
     let k = text::spell(told, &mut labels);
-    follow::start(&s[0..n], &labels[0..k], m, out);
+    let mut indexed = [0u8; index::LENGTH];
+    follow::start(
+        &s[0..n],
+        &mut indexed[0..index::LENGTH],
+        &labels[0..k],
+        m,
+        out,
+    );
 }

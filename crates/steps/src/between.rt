@@ -42,7 +42,7 @@ fn sender(
     x: usize,
     out: &mut [u8],
 ) -> Sighting
-    requires { ⌜ (length (now s) ≤ 4096) × (to ≤ length (now out)) ⌝ }
+    requires { ⌜ (length (now s) ≤ 12288) × (to ≤ length (now out)) ⌝ }
     ensures { λ _. ⌜ Within 0 (length (now (m .entry))) (now (m .entry)) (now (m .exit)) ⌝ }
     ensures { λ _. ⌜ Within to (length (now (out .entry))) (now (out .entry)) (now (out .exit)) ⌝ }
     ensures { λ r. ⌜ Sends (now (s .entry)) at names to (now (m .entry)) x (now (out .entry)) r (now (out .exit)) ⌝ }
@@ -78,7 +78,7 @@ fn take(
     out: &mut [u8],
     size: usize,
 ) -> Next
-    requires { ⌜ (length (now s) ≤ 4096) × (to ≤ length (now out)) ⌝ }
+    requires { ⌜ (length (now s) ≤ 12288) × (to ≤ length (now out)) ⌝ }
     ensures { λ _. ⌜ Within 0 (length (now (m .entry))) (now (m .entry)) (now (m .exit)) ⌝ }
     ensures { λ _. ⌜ Within to (length (now (out .entry))) (now (out .entry)) (now (out .exit)) ⌝ }
     ensures { λ r. ⌜ Takes (now (s .entry)) (now (channel .entry)) to (now (m .entry)) sender taker y (now (out .entry)) size r ⌝ }
@@ -133,7 +133,7 @@ fn pair(
     out: &mut [u8],
     message: &mut [u8],
 ) -> Next
-    requires { ⌜ (length (now s) ≤ 4096) × (to ≤ length (now out)) ⌝ }
+    requires { ⌜ (length (now s) ≤ 12288) × (to ≤ length (now out)) ⌝ }
     ensures { λ _. ⌜ Within 0 (length (now (m .entry))) (now (m .entry)) (now (m .exit)) ⌝ }
     ensures { λ _. ⌜ Within to (length (now (out .entry))) (now (out .entry)) (now (out .exit)) ⌝ }
     ensures { λ _. ⌜ length (now (message .exit)) ≡ length (now (message .entry)) ⌝ }
@@ -170,7 +170,7 @@ pub fn between(
     out: &mut [u8],
     message: &mut [u8],
 ) -> Next
-    requires { ⌜ (length (now s) ≤ 4096) × (to ≤ length (now out)) ⌝ }
+    requires { ⌜ (length (now s) ≤ 12288) × (to ≤ length (now out)) ⌝ }
     ensures { λ _. ⌜ Within 0 (length (now (m .entry))) (now (m .entry)) (now (m .exit)) ⌝ }
     ensures { λ _. ⌜ Within to (length (now (out .entry))) (now (out .entry)) (now (out .exit)) ⌝ }
     ensures { λ _. ⌜ length (now (message .exit)) ≡ length (now (message .entry)) ⌝ }
@@ -196,7 +196,7 @@ fn onward(
     out: &mut [u8],
     message: &mut [u8],
 ) -> Next
-    requires { ⌜ (length (now s) ≤ 4096) × (to ≤ length (now out)) ⌝ }
+    requires { ⌜ (length (now s) ≤ 12288) × (to ≤ length (now out)) ⌝ }
     ensures { λ _. ⌜ Within 0 (length (now (m .entry))) (now (m .entry)) (now (m .exit)) ⌝ }
     ensures { λ _. ⌜ Within to (length (now (out .entry))) (now (out .entry)) (now (out .exit)) ⌝ }
     ensures { λ _. ⌜ length (now (message .exit)) ≡ length (now (message .entry)) ⌝ }

@@ -32,7 +32,7 @@ fn later(
     out: &mut [u8],
     message: &mut [u8],
 ) -> Next
-    requires { ⌜ (length (now s) ≤ 4096) × (state .end ≤ length (now out)) ⌝ }
+    requires { ⌜ (length (now s) ≤ 12288) × (state .end ≤ length (now out)) ⌝ }
     ensures { λ _. ⌜ Within 0 (length (now (m .entry))) (now (m .entry)) (now (m .exit)) ⌝ }
     ensures { λ _. ⌜ Within (state .end) (length (now (out .entry))) (now (out .entry)) (now (out .exit)) ⌝ }
     ensures { λ _. ⌜ length (now (message .exit)) ≡ length (now (message .entry)) ⌝ }
@@ -64,7 +64,7 @@ pub fn next(
     out: &mut [u8],
     message: &mut [u8],
 ) -> Next
-    requires { ⌜ (length (now s) ≤ 4096) × (state .end ≤ length (now out)) ⌝ }
+    requires { ⌜ (length (now s) ≤ 12288) × (state .end ≤ length (now out)) ⌝ }
     ensures { λ _. ⌜ Within 0 (length (now (m .entry))) (now (m .entry)) (now (m .exit)) ⌝ }
     ensures { λ _. ⌜ Within (state .end) (length (now (out .entry))) (now (out .entry)) (now (out .exit)) ⌝ }
     ensures { λ _. ⌜ length (now (message .exit)) ≡ length (now (message .entry)) ⌝ }
@@ -86,7 +86,7 @@ fn first(
     out: &mut [u8],
     message: &mut [u8],
 ) -> Next
-    requires { ⌜ (length (now s) ≤ 4096) × (state .end ≤ length (now out)) ⌝ }
+    requires { ⌜ (length (now s) ≤ 12288) × (state .end ≤ length (now out)) ⌝ }
     ensures { λ _. ⌜ Within 0 (length (now (m .entry))) (now (m .entry)) (now (m .exit)) ⌝ }
     ensures { λ _. ⌜ Within (state .end) (length (now (out .entry))) (now (out .entry)) (now (out .exit)) ⌝ }
     ensures { λ _. ⌜ length (now (message .exit)) ≡ length (now (message .entry)) ⌝ }

@@ -3,6 +3,8 @@ pub mod Rebuild
 pub mod Rebuilt
 pub mod RebuiltMarks
 pub mod RebuiltBoth
+pub mod Block
+pub mod Still
 pub mod RebuiltLeaves
 pub mod RebuiltMove
 pub mod RebuiltMeant

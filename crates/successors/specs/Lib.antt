@@ -1,3 +1,4 @@
 pub mod Lead
 pub mod Rebuild
+pub mod Block
 pub mod Tasks

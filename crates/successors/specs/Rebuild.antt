@@ -3,7 +3,7 @@
 use mathlib.Core.Path.{_≡_}
 use mathlib.Core.Bool.{true, false}
 use mathlib.Core.List.{List, [], _∷_}
-use Prim.Native.Nat.{ℕ, _+_, _≤_}
+use Prim.Native.Nat.{ℕ, _+_, _-_, _≤_}
 use lib.Dec.{eqb}
 use lib.ListN.{length}
 use Rattle.meaning.specs.Messages.Term.{Message}
@@ -34,17 +34,21 @@ rebuilt x i T j U at (t ∷ ts) g = further (renewed x i T j U at t g) (rebuilt 
 -- What both tasks ask for: a label, a model and bytes to work in, and private names that two bytes hold.
 pub record Prepared (s label m : List ℕ) (T U : Task) (x : Message) (n : ℕ) : Type 0 where
   pub labelled : Labelled label x
-  pub short : length s ≤ 4096
+  pub short : length s ≤ 12288
   pub room : 10750 ≤ length m
   pub names : NamesSmall T n
   pub other-names : NamesSmall U n
   pub meant : Meant s T
   pub other-meant : Meant s U
 
--- Whatever thread has its record there, below the state that is being written, the answer and the bytes show what is left of it.
+-- A thread whose record stands at a position acts: at the position i, or else at the position j.
+abbrev pub Acts : (i j at : ℕ) → Type 0
+Acts i j at = (at ≡ i → ⊥) → at ≡ j
+
+-- Whatever thread has its record there, below the state that is being written, the answer and the bytes show what is left of it if it acts.
 pub record Renews (s label : List ℕ) (at : ℕ) (m : List ℕ) (i : ℕ) (T : Task) (j : ℕ) (U : Task) (out : List ℕ) (now r : Progress)
     (after : List ℕ) : Type 0 where
-  pub exact : (t : Placed) (x : Message) (g : Going) {next : ℕ} → RecordAt s out at t next → next ≤ now .state .end
+  pub exact : Acts i j at → (t : Placed) (x : Message) (g : Going) {next : ℕ} → RecordAt s out at t next → next ≤ now .state .end
       → Prepared s label m T U x (g .names) → Shows s out now g → ShowsCourse s after r (renewed x i T j U at t g)
 
 -- Whatever threads have their records there, the same of all of them. A walk that goes no further is left as it is.
@@ -53,3 +57,9 @@ pub record Rebuilds (s label : List ℕ) (at to : ℕ) (m : List ℕ) (i : ℕ) 
   pub stopped : now .going ≡ false → (r ≡ now) × (after ≡ out)
   pub exact : (ps : List Placed) (x : Message) (g : Going) {k : ℕ} → Threads s out at k ps to → to ≤ now .state .end
       → Prepared s label m T U x (g .names) → Shows s out now g → ShowsCourse s after r (rebuilt x i T j U at ps g)
+
+-- The same where the first of them acts, if a record stands there.
+pub record Resumes (s label : List ℕ) (at to : ℕ) (m : List ℕ) (i : ℕ) (T : Task) (j : ℕ) (U : Task) (out : List ℕ) (now r : Progress)
+    (after : List ℕ) : Type 0 where
+  pub stopped : now .going ≡ false → (r ≡ now) × (after ≡ out)
+  pub acting : (4 ≤ to - at → Acts i j at) → Rebuilds s label at to m i T j U out now r after

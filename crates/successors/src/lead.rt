@@ -24,7 +24,7 @@ fn build(
     m: &mut [u8],
     out: &mut [u8],
 ) -> Formed
-    requires { ⌜ (length (now s) ≤ 4096) × (state .end ≤ length (now out)) ⌝ }
+    requires { ⌜ (length (now s) ≤ 12288) × (state .end ≤ length (now out)) ⌝ }
     ensures { λ _. ⌜ Within 0 (length (now (m .entry))) (now (m .entry)) (now (m .exit)) ⌝ }
     ensures { λ _. ⌜ Within (state .end) (length (now (out .entry))) (now (out .entry)) (now (out .exit)) ⌝ }
     ensures { λ r. ⌜ LeadsAt (now (s .entry)) state step last next (now (message .entry)) (now (m .entry)) (now (out .entry)) r (now (out .exit)) ⌝ }
@@ -58,7 +58,7 @@ pub fn lead(
     m: &mut [u8],
     out: &mut [u8],
 ) -> Formed
-    requires { ⌜ (length (now s) ≤ 4096) × (state .end ≤ length (now out)) ⌝ }
+    requires { ⌜ (length (now s) ≤ 12288) × (state .end ≤ length (now out)) ⌝ }
     ensures { λ _. ⌜ Within 0 (length (now (m .entry))) (now (m .entry)) (now (m .exit)) ⌝ }
     ensures { λ _. ⌜ Within (state .end) (length (now (out .entry))) (now (out .entry)) (now (out .exit)) ⌝ }
     ensures { λ r. ⌜ Leads (now (s .entry)) state step (now (message .entry)) (now (m .entry)) (now (out .entry)) r (now (out .exit)) ⌝ }

@@ -12,7 +12,7 @@ use Rattle.meaning.specs.Bytes.Standing.{Stands}
 use Rattle.meaning.specs.Steps.State.{Bound, worked, act}
 use Rattle.meaning.specs.Judging.Limits.{over}
 use Rattle.nodes.specs.Encoding.{encodeMessage}
-use Rattle.layouts.specs.Ends.{ProcessEnd}
+use Rattle.indexes.specs.Index.{InModel, Ends}
 use Rattle.terms.specs.Bound.{BoundTo}
 use Rattle.terms.specs.Work.{TermAt}
 use Rattle.states.specs.Place.{ProcessAt, bodyAt, restAt}
@@ -26,10 +26,10 @@ use Rattle.states.specs.declared.progress.Progress.{Progress}
 -- follows a thread stands.
 pub record Chosen (s : List ℕ) (at : ℕ) (b : Bool) (r : ℕ) : Type 0 where
   pub first : b ≡ true → r ≡ at
-  pub second : b ≡ false → ProcessEnd s at r
+  pub second : b ≡ false → Ends s at r
 
 pub record Held (s : List ℕ) (at mark : ℕ) (r : Bool) : Type 0 where
-  pub exact : (P : Process) {next : ℕ} → Stands s at (encodeProcess P) next → r ≡ holds mark at P
+  pub exact : (P : Process) {next : ℕ} → InModel s at P next → r ≡ holds mark at P
 
 pub record Rests (s : List ℕ) (at r : ℕ) : Type 0 where
   pub exact : (p : Prefix) (P : Process) {next : ℕ} → Stands s at (encodeProcess (Process.act p P)) next → r ≡ restAt at p

@@ -1,4 +1,5 @@
 // Positions in a process: the branch of an if, what follows a thread, whether a mark is in it ("Steps").
+use indexes::index;
 use layouts::ends;
 use nodes::node;
 ghost use Prim.Native.Nat.{_<_};
@@ -15,7 +16,7 @@ pub fn chosen(s: &[u8], at: usize, same: bool) -> usize
     if same {
         return at;
     }
-    ends::process(s, at)
+    index::end(s, at)
 }
 
 // Whether the process at a position has the position of a mark in it.
@@ -25,7 +26,7 @@ pub fn holds(s: &[u8], at: usize, mark: usize) -> bool
     if mark <= at {
         return false;
     }
-    if mark <= ends::process(s, at) {
+    if mark <= index::end(s, at) {
         return true;
     }
     false

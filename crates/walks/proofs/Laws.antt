@@ -4,6 +4,9 @@ pub mod Course
 pub mod Counting
 pub mod Crowd
 pub mod Settling
+pub mod Head
+pub mod HeadKinds
+pub mod Count
 pub mod Walk
 pub mod Copy
 pub mod Prefix

@@ -1,4 +1,6 @@
 pub mod Settled
 pub mod News
 pub mod Walking
+pub mod Head
+pub mod Count
 pub mod Walk

@@ -22,6 +22,8 @@ use Rattle.walks.specs.News.{news, laterNews}
 use Rattle.states.specs.Course.{Going, Course, going, further, named, returned}
 use Rattle.threads.specs.Machine.{opened}
 use Rattle.walks.specs.Walking.{built, atPrefix, go}
+use Rattle.walks.specs.Head.{Passing}
+use Rattle.walks.specs.declared.head.Head.{Head}
 use Rattle.repls.specs.Copies.{openedBy, inCopies, lastly}
 use Rattle.threads.specs.declared.task.Task.{Task}
 use Rattle.threads.specs.declared.task.Task.the-variants.{Count, Judge, Settle, Seek, SeekIn, Find, Build, BuildIn}
@@ -68,7 +70,7 @@ pub record Ready (s label : List ℕ) (at left : ℕ) (m : List ℕ) (end : ℕ)
     pub next : ℕ
     pub process : ProcessAt s at left (length ρ) P next
     pub shallow : left ≤ 64
-    pub short : length s ≤ 4096
+    pub short : length s ≤ 12288
     pub labelled : label ≡ encodeMessage x
     pub small : length label ≤ 510
     pub normal : Normal x
@@ -86,6 +88,12 @@ pub record NodeWalks (s label : List ℕ) (at left : ℕ) (m : List ℕ) (end : 
     : Type 0 where
   pub exact : (P : Process) (x : Message) (ρ : Bound) (g : Going) → Ready s label at left m end T P x ρ g → Shows s out now g
       → ShowsCourse s after r (go P T x at ρ g)
+
+-- The same at a head, with its next private name, if it is of no kind that is passed.
+pub record HeadWalks (s label : List ℕ) (h : Head) (m : List ℕ) (T : Task) (out : List ℕ) (now r : Progress) (after : List ℕ) : Type 0 where
+  pub exact : (Passing (getD s (h .at) 0) → ⊥) → (P : Process) (x : Message) (ρ : Bound) (g : Going)
+      → Ready s label (h .at) (h .left) m (h .end) T P x ρ (named (h .names) g) → Shows s out now g
+      → ShowsCourse s after r (go P T x (h .at) ρ (named (h .names) g))
 
 -- The same, if that process is of a kind.
 pub record WalksIf (kind : ℕ) (s label : List ℕ) (at left : ℕ) (m : List ℕ) (end : ℕ) (T : Task) (out : List ℕ) (now r : Progress)

@@ -1,9 +1,11 @@
 // The walk over a process: it settles from left to right, and does what the task says at each thread that is left ("Steps"). Copies are walked
 // over where they stand in the model, and never stored. Nothing is validated again: where no process stands, the answer is open.
+use crate::count;
+use crate::count::Counted;
+use crate::head;
+use crate::head::Head;
 use binds::bind;
-use binds::decide;
-use binds::decide::Compared;
-use layouts::ends;
+use indexes::index;
 use nodes::node;
 use repls::copies;
 use repls::copies::Copies;
@@ -11,7 +13,6 @@ use repls::copies::Opening;
 use states::progress;
 use states::progress::Progress;
 use states::written;
-use terms::work::Worked;
 use threads::place;
 use threads::task;
 use threads::task::Plan;
@@ -20,24 +21,15 @@ use threads::thread;
 ghost use Prim.Native.Nat.{_+_, _≤_, _<_};
 ghost use lib.ListN.{length};
 ghost use Rattle.nodes.specs.Buffer.{Within};
-ghost use Rattle.walks.specs.Walk.{Leaves, Walks, NodeWalks, WalksIf, AtPrefix, ActsAs, Follows, Receives, Performs, OpensBoth, OpensBy, Opens, Returns};
+ghost use Rattle.walks.specs.Walk.{Leaves, Walks, HeadWalks, WalksIf, AtPrefix, ActsAs, Follows, Receives, Performs, OpensBoth, OpensBy, Opens, Returns};
 ghost use Rattle.states.specs.Progress.{Extends};
 
 // The kinds of processes.
 const NIL: usize = 0;
 
-const NEW: usize = 1;
-
-const IF: usize = 4;
-
-const LET: usize = 5;
-
 const PAR: usize = 6;
 
 const REPL: usize = 7;
-
-// How many bytes above the bound messages a walk may need to work terms.
-const REACH: usize = 4606;
 
 // The process at a position, with so many nodes left on its path, under the messages that are bound up to the position end.
 pub fn walk(
@@ -51,7 +43,7 @@ pub fn walk(
     out: &mut [u8],
     done: Progress,
 ) -> Progress
-    requires { ⌜ (end ≤ length (now m)) × (length (now s) ≤ 4096) ⌝ }
+    requires { ⌜ (end ≤ length (now m)) × (length (now s) ≤ 12288) ⌝ }
     ensures { λ r. ⌜ Extends done r ⌝ }
     ensures { λ _. ⌜ Within end (length (now (m .entry))) (now (m .entry)) (now (m .exit)) ⌝ }
     ensures { λ _. ⌜ Within (done .state .end) (length (now (out .entry))) (now (out .entry)) (now (out .exit)) ⌝ }
@@ -61,46 +53,37 @@ pub fn walk(
     if !going {
         return done;
     }
-    if left == 0 {
-        return progress::stop(done);
+    let names = done.names;
+    let head = head::descend(s, at, left, m, end, names);
+    let there = head.going;
+    if there {
+        return node(s, label, head, m, task, out, done);
     }
-    if s.len() <= at {
-        return progress::stop(done);
-    }
-    if m.len() - end < REACH {
-        return progress::stop(done);
-    }
-    node(s, label, at, left, m, end, task, out, done)
+    progress::stop(done)
 }
 
-// The same, where a node is left for it, and room to work terms.
+// The same at the head of a process, where a node is left for it, and room to work terms.
 fn node(
     s: &[u8],
     label: &[u8],
-    at: usize,
-    left: usize,
+    head: Head,
     m: &mut [u8],
-    end: usize,
     task: Task,
     out: &mut [u8],
     done: Progress,
 ) -> Progress
-    requires { ⌜ (1 ≤ left) × (at < length (now s)) × (end + 4606 ≤ length (now m)) × (length (now s) ≤ 4096) ⌝ }
-    ensures { λ r. ⌜ Leaves end (now (m .entry)) (now (m .exit)) (now (out .entry)) (now (out .exit)) done r ⌝ }
-    ensures { λ r. ⌜ NodeWalks (now (s .entry)) (now (label .entry)) at left (now (m .entry)) end task (now (out .entry)) done r (now (out .exit)) ⌝ }
+    requires { ⌜ (1 ≤ head .left) × (head .at < length (now s)) × (head .end + 4606 ≤ length (now m)) × (length (now s) ≤ 12288) ⌝ }
+    ensures { λ r. ⌜ Leaves (head .end) (now (m .entry)) (now (m .exit)) (now (out .entry)) (now (out .exit)) done r ⌝ }
+    ensures { λ r. ⌜ HeadWalks (now (s .entry)) (now (label .entry)) head (now (m .entry)) task (now (out .entry)) done r (now (out .exit)) ⌝ }
 {
+    let at = head.at;
+    let left = head.left;
+    let end = head.end;
+    let names = head.names;
+    let done = progress::named(done, names);
     let kind = node::wide(s[at]);
     if kind == NIL {
         return done;
-    }
-    if kind == NEW {
-        return new(s, label, at, left, m, end, task, out, done);
-    }
-    if kind == IF {
-        return branch(s, label, at, left, m, end, task, out, done);
-    }
-    if kind == LET {
-        return bound(s, label, at, left, m, end, task, out, done);
     }
     if kind == PAR {
         return both(s, label, at, left, m, end, task, out, done);
@@ -109,94 +92,6 @@ fn node(
         return repl(s, label, at, left, m, end, task, out, done);
     }
     prefix(s, label, at, left, m, end, task, out, done)
-}
-
-// New: the next private name is bound.
-fn new(
-    s: &[u8],
-    label: &[u8],
-    at: usize,
-    left: usize,
-    m: &mut [u8],
-    end: usize,
-    task: Task,
-    out: &mut [u8],
-    done: Progress,
-) -> Progress
-    requires { ⌜ (1 ≤ left) × (at < length (now s)) × (end + 4606 ≤ length (now m)) × (length (now s) ≤ 4096) ⌝ }
-    ensures { λ r. ⌜ Leaves end (now (m .entry)) (now (m .exit)) (now (out .entry)) (now (out .exit)) done r ⌝ }
-    ensures { λ r. ⌜ WalksIf 1 (now (s .entry)) (now (label .entry)) at left (now (m .entry)) end task (now (out .entry)) done r (now (out .exit)) ⌝ }
-{
-    let names = done.names;
-    if bind::LAST_NAME < names {
-        return progress::stop(done);
-    }
-    let last = bind::name(m, end, names);
-    walk(
-        s,
-        label,
-        at + 1,
-        left - 1,
-        m,
-        last,
-        task,
-        out,
-        progress::named(done, names + 1),
-    )
-}
-
-// If: the two terms are worked and compared.
-fn branch(
-    s: &[u8],
-    label: &[u8],
-    at: usize,
-    left: usize,
-    m: &mut [u8],
-    end: usize,
-    task: Task,
-    out: &mut [u8],
-    done: Progress,
-) -> Progress
-    requires { ⌜ (1 ≤ left) × (at < length (now s)) × (end + 4606 ≤ length (now m)) × (length (now s) ≤ 4096) ⌝ }
-    ensures { λ r. ⌜ Leaves end (now (m .entry)) (now (m .exit)) (now (out .entry)) (now (out .exit)) done r ⌝ }
-    ensures { λ r. ⌜ WalksIf 4 (now (s .entry)) (now (label .entry)) at left (now (m .entry)) end task (now (out .entry)) done r (now (out .exit)) ⌝ }
-{
-    match decide::terms(s, at + 1, m, 0, end) {
-        Compared::Terms(next, same) => walk(
-            s,
-            label,
-            place::chosen(s, next, same),
-            left - 1,
-            m,
-            end,
-            task,
-            out,
-            done,
-        ),
-        Compared::TooLarge => progress::stop(done),
-    }
-}
-
-// Let: the message of the term is bound.
-fn bound(
-    s: &[u8],
-    label: &[u8],
-    at: usize,
-    left: usize,
-    m: &mut [u8],
-    end: usize,
-    task: Task,
-    out: &mut [u8],
-    done: Progress,
-) -> Progress
-    requires { ⌜ (1 ≤ left) × (at < length (now s)) × (end + 4606 ≤ length (now m)) × (length (now s) ≤ 4096) ⌝ }
-    ensures { λ r. ⌜ Leaves end (now (m .entry)) (now (m .exit)) (now (out .entry)) (now (out .exit)) done r ⌝ }
-    ensures { λ r. ⌜ WalksIf 5 (now (s .entry)) (now (label .entry)) at left (now (m .entry)) end task (now (out .entry)) done r (now (out .exit)) ⌝ }
-{
-    match bind::term(s, at + 1, m, 0, end) {
-        Worked::Done(next, last) => walk(s, label, next, left - 1, m, last, task, out, done),
-        Worked::TooLarge => progress::stop(done),
-    }
 }
 
 // Par: the first side, and then the second.
@@ -211,7 +106,7 @@ fn both(
     out: &mut [u8],
     done: Progress,
 ) -> Progress
-    requires { ⌜ (1 ≤ left) × (at < length (now s)) × (end + 4606 ≤ length (now m)) × (length (now s) ≤ 4096) ⌝ }
+    requires { ⌜ (1 ≤ left) × (at < length (now s)) × (end + 4606 ≤ length (now m)) × (length (now s) ≤ 12288) ⌝ }
     ensures { λ r. ⌜ Leaves end (now (m .entry)) (now (m .exit)) (now (out .entry)) (now (out .exit)) done r ⌝ }
     ensures { λ r. ⌜ WalksIf 6 (now (s .entry)) (now (label .entry)) at left (now (m .entry)) end task (now (out .entry)) done r (now (out .exit)) ⌝ }
 {
@@ -219,7 +114,7 @@ fn both(
     walk(
         s,
         label,
-        ends::process(s, at + 1),
+        index::end(s, at + 1),
         left - 1,
         m,
         end,
@@ -241,7 +136,7 @@ fn prefix(
     out: &mut [u8],
     done: Progress,
 ) -> Progress
-    requires { ⌜ (1 ≤ left) × (at < length (now s)) × (end + 4606 ≤ length (now m)) × (length (now s) ≤ 4096) ⌝ }
+    requires { ⌜ (1 ≤ left) × (at < length (now s)) × (end + 4606 ≤ length (now m)) × (length (now s) ≤ 12288) ⌝ }
     ensures { λ r. ⌜ Leaves end (now (m .entry)) (now (m .exit)) (now (out .entry)) (now (out .exit)) done r ⌝ }
     ensures { λ r. ⌜ AtPrefix (now (s .entry)) (now (label .entry)) at left (now (m .entry)) end task (now (out .entry)) done r (now (out .exit)) ⌝ }
 {
@@ -269,7 +164,7 @@ fn act(
     out: &mut [u8],
     done: Progress,
 ) -> Progress
-    requires { ⌜ (1 ≤ left) × (at < length (now s)) × (end + 4606 ≤ length (now m)) × (length (now s) ≤ 4096) ⌝ }
+    requires { ⌜ (1 ≤ left) × (at < length (now s)) × (end + 4606 ≤ length (now m)) × (length (now s) ≤ 12288) ⌝ }
     ensures { λ r. ⌜ Leaves end (now (m .entry)) (now (m .exit)) (now (out .entry)) (now (out .exit)) done r ⌝ }
     ensures { λ r. ⌜ ActsAs plan (now (s .entry)) (now (label .entry)) at left (now (m .entry)) end (now (out .entry)) done r (now (out .exit)) ⌝ }
 {
@@ -298,7 +193,7 @@ fn follow(
     out: &mut [u8],
     done: Progress,
 ) -> Progress
-    requires { ⌜ (1 ≤ left) × (at < length (now s)) × (end ≤ length (now m)) × (length (now s) ≤ 4096) ⌝ }
+    requires { ⌜ (1 ≤ left) × (at < length (now s)) × (end ≤ length (now m)) × (length (now s) ≤ 12288) ⌝ }
     ensures { λ r. ⌜ Leaves end (now (m .entry)) (now (m .exit)) (now (out .entry)) (now (out .exit)) done r ⌝ }
     ensures { λ r. ⌜ Follows names (now (s .entry)) (now (label .entry)) at left (now (m .entry)) end (now (out .entry)) done r (now (out .exit)) ⌝ }
 {
@@ -329,7 +224,7 @@ fn receive(
     out: &mut [u8],
     done: Progress,
 ) -> Progress
-    requires { ⌜ (1 ≤ left) × (at < length (now s)) × (end + 4606 ≤ length (now m)) × (length (now s) ≤ 4096) ⌝ }
+    requires { ⌜ (1 ≤ left) × (at < length (now s)) × (end + 4606 ≤ length (now m)) × (length (now s) ≤ 12288) ⌝ }
     ensures { λ r. ⌜ Leaves end (now (m .entry)) (now (m .exit)) (now (out .entry)) (now (out .exit)) done r ⌝ }
     ensures { λ r. ⌜ Receives names (now (s .entry)) (now (label .entry)) at left (now (m .entry)) end (now (out .entry)) done r (now (out .exit)) ⌝ }
 {
@@ -352,7 +247,7 @@ fn repl(
     out: &mut [u8],
     done: Progress,
 ) -> Progress
-    requires { ⌜ (1 ≤ left) × (at < length (now s)) × (end + 4606 ≤ length (now m)) × (length (now s) ≤ 4096) ⌝ }
+    requires { ⌜ (1 ≤ left) × (at < length (now s)) × (end + 4606 ≤ length (now m)) × (length (now s) ≤ 12288) ⌝ }
     ensures { λ r. ⌜ Leaves end (now (m .entry)) (now (m .exit)) (now (out .entry)) (now (out .exit)) done r ⌝ }
     ensures { λ r. ⌜ WalksIf 7 (now (s .entry)) (now (label .entry)) at left (now (m .entry)) end task (now (out .entry)) done r (now (out .exit)) ⌝ }
 {
@@ -375,7 +270,7 @@ fn perform(
     out: &mut [u8],
     done: Progress,
 ) -> Progress
-    requires { ⌜ (1 ≤ left) × (at < length (now s)) × (end ≤ length (now m)) × (length (now s) ≤ 4096) ⌝ }
+    requires { ⌜ (1 ≤ left) × (at < length (now s)) × (end ≤ length (now m)) × (length (now s) ≤ 12288) ⌝ }
     ensures { λ r. ⌜ Leaves end (now (m .entry)) (now (m .exit)) (now (out .entry)) (now (out .exit)) done r ⌝ }
     ensures { λ r. ⌜ Performs copies (now (s .entry)) (now (label .entry)) at left (now (m .entry)) end (now (out .entry)) done r (now (out .exit)) ⌝ }
 {
@@ -396,7 +291,7 @@ fn pair(
     out: &mut [u8],
     done: Progress,
 ) -> Progress
-    requires { ⌜ (1 ≤ left) × (at < length (now s)) × (end ≤ length (now m)) × (length (now s) ≤ 4096) ⌝ }
+    requires { ⌜ (1 ≤ left) × (at < length (now s)) × (end ≤ length (now m)) × (length (now s) ≤ 12288) ⌝ }
     ensures { λ r. ⌜ Leaves end (now (m .entry)) (now (m .exit)) (now (out .entry)) (now (out .exit)) done r ⌝ }
     ensures { λ r. ⌜ OpensBoth copies (now (s .entry)) (now (label .entry)) at left (now (m .entry)) end (now (out .entry)) done r (now (out .exit)) ⌝ }
 {
@@ -418,7 +313,7 @@ fn enter(
     out: &mut [u8],
     done: Progress,
 ) -> Progress
-    requires { ⌜ (1 ≤ left) × (at < length (now s)) × (end ≤ length (now m)) × (length (now s) ≤ 4096) ⌝ }
+    requires { ⌜ (1 ≤ left) × (at < length (now s)) × (end ≤ length (now m)) × (length (now s) ≤ 12288) ⌝ }
     ensures { λ r. ⌜ Leaves end (now (m .entry)) (now (m .exit)) (now (out .entry)) (now (out .exit)) done r ⌝ }
     ensures { λ r. ⌜ OpensBy opening (now (s .entry)) (now (label .entry)) at left (now (m .entry)) end (now (out .entry)) done r (now (out .exit)) ⌝ }
 {
@@ -459,17 +354,13 @@ fn copy(
     out: &mut [u8],
     done: Progress,
 ) -> Progress
-    requires { ⌜ (1 ≤ left) × (at < length (now s)) × (end ≤ length (now m)) × (length (now s) ≤ 4096) ⌝ }
+    requires { ⌜ (1 ≤ left) × (at < length (now s)) × (end ≤ length (now m)) × (length (now s) ≤ 12288) ⌝ }
     ensures { λ r. ⌜ Leaves end (now (m .entry)) (now (m .exit)) (now (out .entry)) (now (out .exit)) done r ⌝ }
     ensures { λ r. ⌜ Opens task opens (now (s .entry)) (now (label .entry)) at left (now (m .entry)) end (now (out .entry)) done r (now (out .exit)) ⌝ }
 {
     let before = done.names;
-    let fresh = progress::named(done, opens);
-    let counted = walk(s, label, at + 1, left - 1, m, end, Task::Count, out, fresh);
-    let going = counted.going;
-    let names = counted.names;
-    if going {
-        return inside(
+    match count::count(s, at + 1, left - 1, m, end, opens) {
+        Counted::Names(names) => inside(
             s,
             label,
             at + 1,
@@ -478,11 +369,11 @@ fn copy(
             end,
             task::opening(task, names),
             out,
-            fresh,
+            progress::named(done, opens),
             before,
-        );
+        ),
+        Counted::OverLimit => progress::stop(done),
     }
-    counted
 }
 
 // The walk over a process, after which the next private name is the one from before.
@@ -498,7 +389,7 @@ fn inside(
     done: Progress,
     before: usize,
 ) -> Progress
-    requires { ⌜ (end ≤ length (now m)) × (length (now s) ≤ 4096) ⌝ }
+    requires { ⌜ (end ≤ length (now m)) × (length (now s) ≤ 12288) ⌝ }
     ensures { λ r. ⌜ Leaves end (now (m .entry)) (now (m .exit)) (now (out .entry)) (now (out .exit)) done r ⌝ }
     ensures { λ r. ⌜ Returns before (now (s .entry)) (now (label .entry)) at left (now (m .entry)) end task (now (out .entry)) done r (now (out .exit)) ⌝ }
 {

@@ -17,6 +17,7 @@ use Rattle.meaning.specs.Judging.Limits.{overSettling, overOffers}
 use Rattle.terms.specs.Bound.{BoundTo}
 use Rattle.states.specs.Place.{ProcessAt, thenAt, elseAt, bodyAt, rightAt, restAt}
 use Rattle.walks.specs.News.{news, laterNews}
+use Rattle.walks.specs.Head.{CanSettle}
 use Rattle.states.specs.Course.{Going}
 use Rattle.states.specs.Shown.{Shows}
 use Rattle.threads.specs.Thread.{Held}
@@ -70,7 +71,7 @@ pub record Prepared (s label : List ℕ) (at left : ℕ) (m : List ℕ) (end : �
   pub next : ℕ
   pub process : ProcessAt s at left (length ρ) P next
   pub shallow : left ≤ 64
-  pub short : length s ≤ 4096
+  pub short : length s ≤ 12288
   pub labelled : Labelled label x
   pub bound : BoundTo m 0 ρ end
   pub room : end + 512 * variables P + 4606 ≤ length m
@@ -82,16 +83,9 @@ pub record Allowed (P : Process) (ρ : Bound) (n k : ℕ) : Type 0 where
   pub settling : overSettling P ρ n ≡ false
   pub offering : anyOf (λ t. overOffers t k) (settle P ρ n) ≡ false
 
--- A walk over the same state that goes on from another private name.
-pub record Restarts (now : Progress) (n : ℕ) (r : Progress) : Type 0 where
-  pub on : r .going ≡ true
-  pub next : r .names ≡ n
-  pub state : r .state ≡ now .state
-
 -- Whatever process stands there, settled at n, if it meets no limit: the next private name.
-pub record Takes (s label : List ℕ) (at left : ℕ) (m : List ℕ) (end n : ℕ) (out : List ℕ) (now : Progress) (r : ℕ) : Type 0 where
-  pub exact : (P : Process) (x : Message) (ρ : Bound) (g : Going) → Prepared s label at left m end P x ρ → n + news P ≤ 32760
-      → Shows s out now g → overSettling P ρ n ≡ false → r ≡ names P ρ n
+pub record Takes (s : List ℕ) (at left : ℕ) (m : List ℕ) (end n : ℕ) (r : ℕ) : Type 0 where
+  pub exact : (P : Process) (ρ : Bound) → CanSettle s at left m end n P ρ → overSettling P ρ n ≡ false → r ≡ names P ρ n
 
 -- The process at the mark was reached: its messages are bound, and it meets no limit.
 pub record Arrives (s label after : List ℕ) (r : Reached) (x : Message) (w : Site) : Type 0 where
@@ -134,9 +128,9 @@ abbrev pub countOf : Process → Bound → ℕ → Counted
 countOf P ρ n = countedOf (overSettling P ρ n) (names P ρ n)
 
 -- Whatever output or input stands there, the answer is that for what follows it, under the messages that are bound.
-pub record CountsAfter (s label : List ℕ) (at left : ℕ) (m : List ℕ) (end n : ℕ) (out : List ℕ) (now : Progress) (r : Counted) : Type 0 where
-  pub exact : (p : Prefix) (P : Process) (x : Message) (ρ : Bound) (g : Going) {next : ℕ} → Stands s at (encodeProcess (Process.act p P)) next
-      → Prepared s label (restAt at p) (left - 1) m end P x ρ → n + news P ≤ 32760 → Shows s out now g → r ≡ countOf P ρ n
+pub record CountsAfter (s : List ℕ) (at left : ℕ) (m : List ℕ) (end n : ℕ) (r : Counted) : Type 0 where
+  pub exact : (p : Prefix) (P : Process) (ρ : Bound) {next : ℕ} → Stands s at (encodeProcess (Process.act p P)) next
+      → CanSettle s (restAt at p) (left - 1) m end n P ρ → r ≡ countOf P ρ n
 
 -- And for an input, under the message of the label too.
 pub record CountsRest (s label : List ℕ) (at left : ℕ) (m : List ℕ) (end n : ℕ) (out : List ℕ) (now : Progress) (r : Counted) : Type 0 where

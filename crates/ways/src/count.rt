@@ -4,12 +4,11 @@ use binds::bind;
 use nodes::node;
 use states::progress::Progress;
 use threads::place;
-use threads::task::Task;
-use walks::walk;
+use walks::count;
 ghost use Prim.Native.Nat.{_≤_, _<_};
 ghost use lib.ListN.{length};
 ghost use Rattle.nodes.specs.Buffer.{Within};
-ghost use Rattle.ways.specs.Reach.{Restarts, Takes, CountsAfter, CountsRest};
+ghost use Rattle.ways.specs.Reach.{Takes, CountsAfter, CountsRest};
 
 // The kind of an output.
 const OUTPUT: usize = 2;
@@ -26,49 +25,16 @@ pub enum Counted {
     OverLimit,
 }
 
-// A walk over the same state, from another private name on.
-fn restart(done: Progress, names: usize) -> Progress
-    ensures { λ r. ⌜ Restarts done names r ⌝ }
-{
-    let state = done.state;
-    Progress {
-        going: true,
-        names: names,
-        mark: 0,
-        sent: 0,
-        state: state,
-    }
-}
-
-// The private name after those that the process at a position takes, if it is settled at the private name names.
-pub fn taken(
-    s: &[u8],
-    label: &[u8],
-    at: usize,
-    left: usize,
-    m: &mut [u8],
-    end: usize,
-    names: usize,
-    out: &mut [u8],
-    done: Progress,
-) -> usize
-    requires { ⌜ (end ≤ length (now m)) × (length (now s) ≤ 4096) ⌝ }
+// The private name after those that the process at a position takes, if it is settled at the private name names and meets no limit.
+pub fn taken(s: &[u8], at: usize, left: usize, m: &mut [u8], end: usize, names: usize) -> usize
+    requires { ⌜ (end ≤ length (now m)) × (length (now s) ≤ 12288) ⌝ }
     ensures { λ _. ⌜ Within end (length (now (m .entry))) (now (m .entry)) (now (m .exit)) ⌝ }
-    ensures { λ _. ⌜ Within (done .state .end) (length (now (out .entry))) (now (out .entry)) (now (out .exit)) ⌝ }
-    ensures { λ r. ⌜ Takes (now (s .entry)) (now (label .entry)) at left (now (m .entry)) end names (now (out .entry)) done r ⌝ }
+    ensures { λ r. ⌜ Takes (now (s .entry)) at left (now (m .entry)) end names r ⌝ }
 {
-    let counted = walk::walk(
-        s,
-        label,
-        at,
-        left,
-        m,
-        end,
-        Task::Count,
-        out,
-        restart(done, names),
-    );
-    counted.names
+    match count::count(s, at, left, m, end, names) {
+        count::Counted::Names(next) => next,
+        count::Counted::OverLimit => names,
+    }
 }
 
 // The private names of what follows the output or the input at a position, settled at the private name names, under the message of the label
@@ -84,7 +50,7 @@ pub fn rest(
     out: &mut [u8],
     done: Progress,
 ) -> Counted
-    requires { ⌜ (end ≤ length (now m)) × (length (now s) ≤ 4096) ⌝ }
+    requires { ⌜ (end ≤ length (now m)) × (length (now s) ≤ 12288) ⌝ }
     ensures { λ _. ⌜ Within end (length (now (m .entry))) (now (m .entry)) (now (m .exit)) ⌝ }
     ensures { λ _. ⌜ Within (done .state .end) (length (now (out .entry))) (now (out .entry)) (now (out .exit)) ⌝ }
     ensures { λ r. ⌜ CountsRest (now (s .entry)) (now (label .entry)) at left (now (m .entry)) end names (now (out .entry)) done r ⌝ }
@@ -99,46 +65,23 @@ pub fn rest(
         return Counted::OverLimit;
     }
     if node::wide(s[at]) == OUTPUT {
-        return count(s, label, at, left, m, end, names, out, done);
+        return after(s, at, left, m, end, names);
     }
     if LABEL < label.len() {
         return Counted::OverLimit;
     }
     let last = bind::message(label, m, end);
-    count(s, label, at, left, m, last, names, out, done)
+    after(s, at, left, m, last, names)
 }
 
 // The same under the messages that are bound up to the position end.
-fn count(
-    s: &[u8],
-    label: &[u8],
-    at: usize,
-    left: usize,
-    m: &mut [u8],
-    end: usize,
-    names: usize,
-    out: &mut [u8],
-    done: Progress,
-) -> Counted
-    requires { ⌜ (1 ≤ left) × (at < length (now s)) × (end ≤ length (now m)) × (length (now s) ≤ 4096) ⌝ }
+fn after(s: &[u8], at: usize, left: usize, m: &mut [u8], end: usize, names: usize) -> Counted
+    requires { ⌜ (1 ≤ left) × (at < length (now s)) × (end ≤ length (now m)) × (length (now s) ≤ 12288) ⌝ }
     ensures { λ _. ⌜ Within end (length (now (m .entry))) (now (m .entry)) (now (m .exit)) ⌝ }
-    ensures { λ _. ⌜ Within (done .state .end) (length (now (out .entry))) (now (out .entry)) (now (out .exit)) ⌝ }
-    ensures { λ r. ⌜ CountsAfter (now (s .entry)) (now (label .entry)) at left (now (m .entry)) end names (now (out .entry)) done r ⌝ }
+    ensures { λ r. ⌜ CountsAfter (now (s .entry)) at left (now (m .entry)) end names r ⌝ }
 {
-    let counted = walk::walk(
-        s,
-        label,
-        place::rest(s, at),
-        left - 1,
-        m,
-        end,
-        Task::Count,
-        out,
-        restart(done, names),
-    );
-    let going = counted.going;
-    if going {
-        return Counted::Names(counted.names);
+    match count::count(s, place::rest(s, at), left - 1, m, end, names) {
+        count::Counted::Names(next) => Counted::Names(next),
+        count::Counted::OverLimit => Counted::OverLimit,
     }
-    Counted::OverLimit
 }

@@ -2,6 +2,7 @@
 // and one more. Nothing is validated again: where no process stands, or a limit is met on the way, the answer is open.
 use crate::count;
 use binds::bind;
+use indexes::index;
 use layouts::ends;
 use nodes::node;
 use states::progress::Progress;
@@ -65,7 +66,7 @@ pub fn reach(
     out: &mut [u8],
     done: Progress,
 ) -> Reached
-    requires { ⌜ (end ≤ length (now m)) × (length (now s) ≤ 4096) ⌝ }
+    requires { ⌜ (end ≤ length (now m)) × (length (now s) ≤ 12288) ⌝ }
     ensures { λ r. ⌜ r .end ≤ length (now (m .exit)) ⌝ }
     ensures { λ _. ⌜ Within end (length (now (m .entry))) (now (m .entry)) (now (m .exit)) ⌝ }
     ensures { λ _. ⌜ Within (done .state .end) (length (now (out .entry))) (now (out .entry)) (now (out .exit)) ⌝ }
@@ -106,7 +107,7 @@ fn below(
     out: &mut [u8],
     done: Progress,
 ) -> Reached
-    requires { ⌜ (1 ≤ left) × (at < length (now s)) × (end + 4606 ≤ length (now m)) × (length (now s) ≤ 4096) ⌝ }
+    requires { ⌜ (1 ≤ left) × (at < length (now s)) × (end + 4606 ≤ length (now m)) × (length (now s) ≤ 12288) ⌝ }
     ensures { λ r. ⌜ r .end ≤ length (now (m .exit)) ⌝ }
     ensures { λ _. ⌜ Within end (length (now (m .entry))) (now (m .entry)) (now (m .exit)) ⌝ }
     ensures { λ _. ⌜ Within (done .state .end) (length (now (out .entry))) (now (out .entry)) (now (out .exit)) ⌝ }
@@ -145,7 +146,7 @@ fn new(
     out: &mut [u8],
     done: Progress,
 ) -> Reached
-    requires { ⌜ (1 ≤ left) × (at < length (now s)) × (end + 4606 ≤ length (now m)) × (length (now s) ≤ 4096) ⌝ }
+    requires { ⌜ (1 ≤ left) × (at < length (now s)) × (end + 4606 ≤ length (now m)) × (length (now s) ≤ 12288) ⌝ }
     ensures { λ r. ⌜ r .end ≤ length (now (m .exit)) ⌝ }
     ensures { λ _. ⌜ Within end (length (now (m .entry))) (now (m .entry)) (now (m .exit)) ⌝ }
     ensures { λ _. ⌜ Within (done .state .end) (length (now (out .entry))) (now (out .entry)) (now (out .exit)) ⌝ }
@@ -184,7 +185,7 @@ fn branch(
     out: &mut [u8],
     done: Progress,
 ) -> Reached
-    requires { ⌜ (1 ≤ left) × (at < length (now s)) × (end + 4606 ≤ length (now m)) × (length (now s) ≤ 4096) ⌝ }
+    requires { ⌜ (1 ≤ left) × (at < length (now s)) × (end + 4606 ≤ length (now m)) × (length (now s) ≤ 12288) ⌝ }
     ensures { λ r. ⌜ r .end ≤ length (now (m .exit)) ⌝ }
     ensures { λ _. ⌜ Within end (length (now (m .entry))) (now (m .entry)) (now (m .exit)) ⌝ }
     ensures { λ _. ⌜ Within (done .state .end) (length (now (out .entry))) (now (out .entry)) (now (out .exit)) ⌝ }
@@ -209,7 +210,7 @@ fn branch(
     reach(
         s,
         label,
-        ends::process(s, first),
+        index::end(s, first),
         left - 1,
         m,
         end,
@@ -235,7 +236,7 @@ fn bound(
     out: &mut [u8],
     done: Progress,
 ) -> Reached
-    requires { ⌜ (1 ≤ left) × (at < length (now s)) × (end + 4606 ≤ length (now m)) × (length (now s) ≤ 4096) ⌝ }
+    requires { ⌜ (1 ≤ left) × (at < length (now s)) × (end + 4606 ≤ length (now m)) × (length (now s) ≤ 12288) ⌝ }
     ensures { λ r. ⌜ r .end ≤ length (now (m .exit)) ⌝ }
     ensures { λ _. ⌜ Within end (length (now (m .entry))) (now (m .entry)) (now (m .exit)) ⌝ }
     ensures { λ _. ⌜ Within (done .state .end) (length (now (out .entry))) (now (out .entry)) (now (out .exit)) ⌝ }
@@ -273,7 +274,7 @@ fn side(
     out: &mut [u8],
     done: Progress,
 ) -> Reached
-    requires { ⌜ (1 ≤ left) × (at < length (now s)) × (end + 4606 ≤ length (now m)) × (length (now s) ≤ 4096) ⌝ }
+    requires { ⌜ (1 ≤ left) × (at < length (now s)) × (end + 4606 ≤ length (now m)) × (length (now s) ≤ 12288) ⌝ }
     ensures { λ r. ⌜ r .end ≤ length (now (m .exit)) ⌝ }
     ensures { λ _. ⌜ Within end (length (now (m .entry))) (now (m .entry)) (now (m .exit)) ⌝ }
     ensures { λ _. ⌜ Within (done .state .end) (length (now (out .entry))) (now (out .entry)) (now (out .exit)) ⌝ }
@@ -311,17 +312,17 @@ fn other(
     out: &mut [u8],
     done: Progress,
 ) -> Reached
-    requires { ⌜ (1 ≤ left) × (at < length (now s)) × (end + 4606 ≤ length (now m)) × (length (now s) ≤ 4096) ⌝ }
+    requires { ⌜ (1 ≤ left) × (at < length (now s)) × (end + 4606 ≤ length (now m)) × (length (now s) ≤ 12288) ⌝ }
     ensures { λ r. ⌜ r .end ≤ length (now (m .exit)) ⌝ }
     ensures { λ _. ⌜ Within end (length (now (m .entry))) (now (m .entry)) (now (m .exit)) ⌝ }
     ensures { λ _. ⌜ Within (done .state .end) (length (now (out .entry))) (now (out .entry)) (now (out .exit)) ⌝ }
     ensures { λ r. ⌜ OtherPasses (now (s .entry)) (now (label .entry)) at left (now (m .entry)) end mark names opens (now (out .entry)) done r (now (m .exit)) ⌝ }
 {
-    let later = count::taken(s, label, at + 1, left - 1, m, end, names, out, done);
+    let later = count::taken(s, at + 1, left - 1, m, end, names);
     reach(
         s,
         label,
-        ends::process(s, at + 1),
+        index::end(s, at + 1),
         left - 1,
         m,
         end,
@@ -346,13 +347,13 @@ fn copy(
     out: &mut [u8],
     done: Progress,
 ) -> Reached
-    requires { ⌜ (1 ≤ left) × (at < length (now s)) × (end + 4606 ≤ length (now m)) × (length (now s) ≤ 4096) ⌝ }
+    requires { ⌜ (1 ≤ left) × (at < length (now s)) × (end + 4606 ≤ length (now m)) × (length (now s) ≤ 12288) ⌝ }
     ensures { λ r. ⌜ r .end ≤ length (now (m .exit)) ⌝ }
     ensures { λ _. ⌜ Within end (length (now (m .entry))) (now (m .entry)) (now (m .exit)) ⌝ }
     ensures { λ _. ⌜ Within (done .state .end) (length (now (out .entry))) (now (out .entry)) (now (out .exit)) ⌝ }
     ensures { λ r. ⌜ CopyPasses (now (s .entry)) (now (label .entry)) at left (now (m .entry)) end mark opens (now (out .entry)) done r (now (m .exit)) ⌝ }
 {
-    let later = count::taken(s, label, at + 1, left - 1, m, end, opens, out, done);
+    let later = count::taken(s, at + 1, left - 1, m, end, opens);
     reach(
         s,
         label,

@@ -19,11 +19,10 @@ use Rattle.meaning.specs.Steps.State.{names, settle, start}
 use Rattle.meaning.specs.Logic.Truth.{anyOf}
 use Rattle.meaning.specs.Judging.Limits.{boundNodes, threadNodes, overSettling, overOffers, overState}
 use Rattle.meaning.specs.Judging.Visits.{startArrival}
-use Rattle.meaning.proofs.Bytes.Reading.Place.{whole-stands}
 use Rattle.meaning.proofs.Test.{neither}
 use Rattle.nodes.specs.Buffer.{Within}
 use Rattle.terms.specs.Bound.{encodeBound}
-use Rattle.states.specs.Place.{ProcessAt}
+use Rattle.indexes.specs.Index.{Builds}
 use Rattle.states.specs.Record.{encodeRecords}
 use Rattle.states.specs.Room.{freshState}
 use Rattle.walks.specs.News.{news}
@@ -32,7 +31,7 @@ use Rattle.states.specs.Shown.{Shows, ShowsCourse}
 use Rattle.walks.specs.Walk.{Ready, Walks}
 use Rattle.walks.specs.Settled.{settledAt, settledTo, overSettled}
 use Rattle.states.specs.Progress.{Extends}
-use Rattle.forms.specs.Form.{StateAt, stateOf, overArrival, Forms, Starts, Finishes}
+use Rattle.forms.specs.Form.{StateAt, stateOf, overArrival, Forms, ModelIn, Starts, Finishes}
 use Rattle.states.specs.declared.state.State.{State}
 use Rattle.forms.specs.declared.form.Formed.{Formed}
 use Rattle.forms.specs.declared.form.Formed.the-variants.{At, OverLimit}
@@ -77,15 +76,22 @@ news-few (let-in M P) = omega (arith, news-few P, length-append (encodeTerm M) (
 news-few (par P Q) = omega (arith, news-few P, news-few Q, length-append (encodeProcess P) (encodeProcess Q))
 news-few (repl P) = omega (arith, news-few P)
 
--- A model stands in its own slice.
-model-stands : (s : List ℕ) (P : Process) → IsModel s P → ProcessAt s 0 64 0 P (length s)
-model-stands s P w = record {
-  stands = rw (w .encoded) (whole-stands s);
-  deep = w .nodes;
-  terms = w .terms;
-  scoped = w .scoped;
-  few = omega (arith, w .bound);
-}
+-- A model that was put into a slice with its index stands there.
+pub model-in : {model s : List ℕ} (P : Process) → Builds model s → IsModel model P → ModelIn s P
+model-in {model} P b w =
+    let p = b .exact P w in
+    record {
+      next = length model;
+      process = record {
+        stands = p .stands;
+        deep = w .nodes;
+        terms = w .terms;
+        scoped = w .scoped;
+        few = omega (arith, w .bound);
+        indexed = p .indexed;
+        inside = p .inside;
+      };
+    }
 
 -- The tests of a state in another order.
 or-five : (o t n c a : Bool) → (o || (t || n || c || a)) ≡ ((o || (t || c || a)) || n)
@@ -131,19 +137,19 @@ module _ {s label m out after : List ℕ} {begin : ℕ} {f : State} {w : Progres
     standing = none;
   })
 
-  ready : (P : Process) → IsModel s P → 10750 ≤ length m → label ≡ 16 ∷ 0 ∷ [] → Ready s label 0 64 m 0 Settle P (leaf (public 0)) [] empty
+  ready : (P : Process) → ModelIn s P → length s ≤ 12288 → 10750 ≤ length m → label ≡ 16 ∷ 0 ∷ [] → Ready s label 0 64 m 0 Settle P (leaf (public 0)) [] empty
   unfolding encodeBound encodeMessage encodeNode normal
-  ready P w l e = record {
-    next = length s;
-    process = model-stands s P w;
+  ready P w short l e = record {
+    next = w .next;
+    process = w .process;
     shallow = omega arith;
-    short = w .short;
+    short = short;
     labelled = e;
     small = rw e (omega arith);
     normal = normalForms (leaf (public 0)) .0;
     bound = record { stands = record { bytes = refl; size = omega arith }; few = omega arith; normal = none };
-    room = omega (arith, w .bound);
-    fits = record { own = omega (arith, news-few P, w .short, ap length (w .encoded)); others = none };
+    room = omega (arith, w .process .few);
+    fits = record { own = omega (arith, news-few P, w .process .stands .size, w .process .inside); others = none };
     meant = tt;
   }
 
@@ -191,10 +197,10 @@ module _ {s label m out after : List ℕ} {begin : ℕ} {f : State} {w : Progres
   }
   by-limits P false e d = by-names P (ltb 128 (names P [] 0)) e refl d
 
-  pub start-formed : 10750 ≤ length m → label ≡ 16 ∷ 0 ∷ [] → begin + 3964 ≤ length out → Starts s begin r after
-  start-formed l e o = record {
+  pub start-formed : length s ≤ 12288 → 10750 ≤ length m → label ≡ 16 ∷ 0 ∷ [] → begin + 3964 ≤ length out → Starts s begin r after
+  start-formed short l e o = record {
     exact = λ P y. by-limits P (overSettled P [] empty) refl (
-        rw (← settles P (leaf (public 0)) 0 [] empty none (omega arith) (omega arith)) (v .walks .exact P (leaf (public 0)) [] empty (ready P y l e) (begins o))
+        rw (← settles P (leaf (public 0)) 0 [] empty none (omega arith) (omega arith)) (v .walks .exact P (leaf (public 0)) [] empty (ready P y short l e) (begins o))
         );
   }
 

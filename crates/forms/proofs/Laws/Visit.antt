@@ -1,13 +1,12 @@
 -- A walk over a thread that is loaded from its record ("Steps"). Assumes nothing.
-use mathlib.Core.Path.{_≡_, refl, ap, subst}
+use mathlib.Core.Path.{_≡_, refl, subst}
 use mathlib.Core.List.{List, _++_}
 use Prim.Native.Nat.{ℕ, _+_, _*_, _≤_}
 use native.Mathlib.Omega.{arith}
-use lib.ListN.{length, drop, length-append, length-drop}
+use lib.ListN.{length, length-append}
 use Rattle.meaning.specs.Messages.Term.{Message}
 use Rattle.meaning.specs.Bytes.Process.{output, input, Process}
 use Rattle.meaning.specs.Bytes.Encoding.{encodeTerm, encodeProcess}
-use Rattle.meaning.specs.Bytes.Standing.{Stands}
 use Rattle.meaning.specs.Places.{none, _also_}
 use Rattle.meaning.proofs.Every.{every-map}
 use Rattle.nodes.specs.Buffer.{Within}
@@ -49,15 +48,11 @@ news-short (Process.let-in M P) = omega (arith, news-short P, length-append (enc
 news-short (Process.par P Q) = omega (arith, news-short P, news-short Q, length-append (encodeProcess P) (encodeProcess Q))
 news-short (Process.repl P) = omega (arith, news-short P)
 
--- What stands in a slice is no longer than it.
-stands-short : {s xs : List ℕ} {at end : ℕ} → Stands s at xs end → length xs ≤ length s
-stands-short {s} {xs} {at} {end} p = omega (arith, ap length (p .bytes), length-append xs (drop end s), length-drop at s)
-
 -- Small names fit whatever process stands in a model.
-pub names-small : {s : List ℕ} {at left scope next : ℕ} (T : Task) (n : ℕ) (P : Process) → ProcessAt s at left scope P next → length s ≤ 4096
+pub names-small : {s : List ℕ} {at left scope next : ℕ} (T : Task) (n : ℕ) (P : Process) → ProcessAt s at left scope P next → length s ≤ 12288
     → NamesSmall T n → NamesFit T n P
 names-small T n P p l (a also rest) =
-    let few : news P ≤ 4096 = omega (arith, news-short P, stands-short (p .stands)) in
+    let few : news P ≤ 4096 = omega (arith, news-short P, p .stands .size, p .inside) in
     record { own = omega arith; others = every-map (λ k h. omega (arith, later-fewer P)) rest }
 
 -- The messages of a thread within the limits take 512 bytes each at most.
@@ -70,7 +65,7 @@ pub visited : {s label m m₁ out after : List ℕ} {at : ℕ} {T : Task} {now r
     → Within 0 (l .end) m m₁ → Walks s label (l .place) 64 m₁ (l .end) T out now r after → Visits s label at m T out now r after
 visited {s} {label} {m} {m₁} {out} {after} {at} {T} {now} {r} {l} d w v = record { exact = one }
   where
-    one : (t : Placed) (x : Message) (g : Going) {next : ℕ} → RecordAt s out at t next → Labelled label x → length s ≤ 4096
+    one : (t : Placed) (x : Message) (g : Going) {next : ℕ} → RecordAt s out at t next → Labelled label x → length s ≤ 12288
         → 10750 ≤ length m → NamesSmall T (g .names) → Meant s T → Shows s out now g
         → ShowsCourse s after r (go (processOf (t .thread)) T x (t .place) (boundOf (t .thread)) g)
     one t x g h i short room names meant shows =

@@ -7,24 +7,30 @@ use Rattle.meaning.specs.Steps.State.{start}
 use Rattle.meaning.specs.Judging.{judgeModel}
 use Rattle.meaning.specs.Judging.Visits.{startArrival}
 use Rattle.nodes.specs.Buffer.{Within}
+use Rattle.indexes.specs.Index.{Builds}
 use Rattle.forms.specs.Form.{Starts}
+use Rattle.forms.proofs.Laws.Form.{model-in}
 use Rattle.forms.specs.declared.form.Formed.{Formed}
 use Rattle.moves.proofs.Laws.Start.{startHeld}
 use Rattle.labels.proofs.Laws.Formula.{whole-formula}
 use Rattle.judging.specs.Reached.{Room}
 use Rattle.judging.specs.Visit.{Judges}
-use Rattle.judging.specs.Model.{JudgesModel}
+use Rattle.judging.specs.Model.{JudgesModel, JudgesIndexed}
 use Rattle.judging.specs.declared.judged.Judged.{Judged}
 use Rattle.judging.proofs.Laws.Reached.{reached}
 
 -- The start state stands in front, and 16 step formulas may follow.
-pub judges-model : {s f m m₁ out out₁ after : List ℕ} {low low₁ high high₁ budget : ℕ} {formed : Formed} {r : Judged} → Starts s 0 formed out₁
-    → Within low high m m₁ → Within low₁ high₁ out out₁ → length s ≤ 4096 → 10750 ≤ length m → 65536 ≤ length out
-    → Judges s f 0 48 formed m₁ out₁ budget r after → JudgesModel s f budget r
+pub judges-indexed : {s f m m₁ out out₁ after : List ℕ} {low low₁ high high₁ budget : ℕ} {formed : Formed} {r : Judged}
+    → Starts s 0 formed out₁ → Within low high m m₁ → Within low₁ high₁ out out₁ → length s ≤ 12288 → 10750 ≤ length m → 65536 ≤ length out
+    → Judges s f 0 48 formed m₁ out₁ budget r after → JudgesIndexed s f budget r
 unfolding judgeModel start
-judges-model {s} {m₁ = m₁} {out₁ = out₁} starts wm wo short wide long judges = record {
+judges-indexed {s = s} {m₁ = m₁} {out₁ = out₁} starts wm wo short wide long judges = record {
   exact = λ P F model formula.
       let (there, above) = reached (starts .exact P model) (λ free st at. startHeld s out₁ P st free at) 16 (omega arith) (omega arith) in
       let room : Room s m₁ out₁ = record { short = short; wide = omega (arith, wm .long); long = omega (arith, wo .long) } in
       judges .exact F (startArrival P) (whole-formula formula) there room .0;
 }
+
+-- A model that was put into a slice with its index is the one that is judged.
+pub judges-model : {model s f : List ℕ} {budget : ℕ} {r : Judged} → Builds model s → JudgesIndexed s f budget r → JudgesModel model f budget r
+judges-model b j = record { exact = λ P F model formula. j .exact P F (model-in P b model) formula }

@@ -21,13 +21,13 @@ abbrev then : {A : Type 0} → (A → List ℕ) → List ℕ → List A → List
 then encode xs [] = xs
 then encode xs (a ∷ rest) = then encode (xs ++ encode a) rest
 
-then-row : {A : Type 0} (encode : A → List ℕ) (xs : List ℕ) (trees : List A) → then encode xs trees ≡ xs ++ row encode trees
+pub then-row : {A : Type 0} (encode : A → List ℕ) (xs : List ℕ) (trees : List A) → then encode xs trees ≡ xs ++ row encode trees
 then-row encode xs [] = sym (append-nil xs)
 then-row encode xs (a ∷ rest) = then-row encode (xs ++ encode a) rest ∙ append-assoc xs (encode a) (row encode rest)
 
 -- A node, by its kind, its fields and its parts.
 module _ {A B : Type 0} {field : B → List ℕ} {encode : A → List ℕ} {kinds : ℕ} {table : List Layout} {a : A} where
-  node : (k : ℕ) (own : List B) (inner : List A) → encode a ≡ then encode (then field (k ∷ []) own) inner
+  abbrev node : (k : ℕ) (own : List B) (inner : List A) → encode a ≡ then encode (then field (k ∷ []) own) inner
       → k < kinds → length own ≡ fields (layoutOf table k) → length inner ≡ parts (layoutOf table k)
       → Node field encode kinds table a
   node k own inner e h o p = record {
@@ -52,7 +52,7 @@ terms (binary (cipher enc) t u) = node 5 [] (t ∷ u ∷ []) refl (omega arith) 
 terms (binary (cipher dec) t u) = node 6 [] (t ∷ u ∷ []) refl (omega arith) refl refl
 terms (binary mac t u) = node 7 [] (t ∷ u ∷ []) refl (omega arith) refl refl
 
-pub processes : (P : Process) → Node encodeTerm encodeProcess 8 processLayouts P
+unfoldable pub processes : (P : Process) → Node encodeTerm encodeProcess 8 processLayouts P
 unfolding encodeProcess
 processes nil = node 0 [] [] refl (omega arith) refl refl
 processes (new P) = node 1 [] (P ∷ []) refl (omega arith) refl refl

@@ -2,11 +2,29 @@
 use mathlib.Core.Path.{_≡_}
 use mathlib.Core.Bool.{Bool, true, _&&_}
 use mathlib.Core.List.{List, [], _∷_}
-use Prim.Native.Nat.{ℕ, zero, suc, _≤_}
+use Prim.Native.Nat.{ℕ, zero, suc, _≤_, _<_}
+use native.Mathlib.Omega.{arith}
 use lib.Dec.{T, leb, leb→le}
 use mir.Facts.{and-yes}
 use Rattle.layouts.specs.declared.layout.Layout.{Layout}
 use Rattle.layouts.specs.Layout.{fields, binds, step, parts, layout, layoutOf, termLayouts, processLayouts, formulaLayouts}
+
+-- The row of a kind that is known.
+pub row-of : (table : List Layout) {l : Layout} {k : ℕ} (n : ℕ) → k ≡ n → l ≡ layoutOf table n → l ≡ layoutOf table k
+row-of table n e r = rw e r
+
+-- A kind that is none of the first n is at least n.
+abbrev pub Others : (n k : ℕ) → Type 0
+Others zero k = Unit {0}
+Others (suc n) k = Others n k × (k ≡ n → ⊥)
+
+pub others-above : (n k : ℕ) → Others n k → n ≤ k
+others-above zero k o = omega arith
+others-above (suc n) k o = omega (arith, others-above n k (o .0), o .1)
+
+-- So the last row is that of a kind that is none of those before it.
+pub last-row : (table : List Layout) {l : Layout} {k : ℕ} (n : ℕ) → Others n k → k < suc n → l ≡ layoutOf table n → l ≡ layoutOf table k
+last-row table {k = k} n o h = row-of table n (omega (arith, others-above n k o))
 
 -- In each row, one number is at most another.
 module _ (small large : Layout → ℕ) where

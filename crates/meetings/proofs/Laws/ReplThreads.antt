@@ -14,7 +14,6 @@ use Rattle.states.specs.Record.{Placed, processOf, boundOf}
 use Rattle.positions.specs.Sought.{Opened, copies}
 use Rattle.moves.specs.Spot.{copiesOf}
 use Rattle.moves.specs.CopyOffers.{ThreadAt}
-use Rattle.moves.proofs.Laws.Threads.{stands-short}
 
 -- Every repl thread of a process has a byte of it.
 pub copies-few : (P : Process) (at : ℕ) (ρ : Bound) (n k : ℕ) → length (copies P at ρ n k) ≤ length (encodeProcess P)
@@ -56,6 +55,6 @@ few-groups {k = k} t h =
     omega (
       arith,
       copies-few (processOf (t .thread)) (t .place) (boundOf (t .thread)) 0 k,
-      stands-short (h .recorded .standing .process .stands),
-      h .short,
+      h .recorded .standing .process .stands .size,
+      h .recorded .standing .process .inside,
     )

@@ -71,6 +71,9 @@ module _ {s xs : List ℕ} {at end : ℕ} (p : Stands s at xs end) where
       omega (arith, p .size, ap length (p .bytes), length-append xs (drop end s), length-drop at s, length-drop end s)
 
 -- The process of a thread stands in the model.
+pub process-inside : {s : List ℕ} (t : Placed) → Standing s t → t .place + size (processOf (t .thread)) ≤ 4096
+process-inside t h = omega (arith, h .process .stands .size, h .process .inside)
+
 pub process-ends : {s : List ℕ} (t : Placed) → Standing s t → t .place + size (processOf (t .thread)) ≤ length s
 process-ends t h =
     let there = h .process .stands in

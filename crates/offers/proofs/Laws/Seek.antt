@@ -1,61 +1,30 @@
 -- The next offer among the threads of a state ("Steps"). Assumes nothing.
 use mathlib.Core.Path.{_≡_, refl, sym, _∙_}
-use mathlib.Core.Bool.{Bool, true, false}
+use mathlib.Core.Bool.{Bool, true, false, not, true≢false}
 use mathlib.Core.List.{List, [], _∷_}
 use Prim.Native.Nat.{ℕ, _+_, _-_, _≤_, _<_}
 use native.Mathlib.Omega.{arith}
 use lib.Dec.{eqb}
-use borrow.Author.Tests.{eq-eqb, ne-eqb}
+use borrow.Author.Tests.{ne-eqb}
 use lib.ListN.{length}
 use Rattle.meaning.specs.Messages.Term.{Message}
-use Rattle.meaning.specs.Places.{none, _also_}
-use Rattle.meaning.specs.Steps.State.{Thread, act, repl, names, settle}
-use Rattle.meaning.specs.Logic.Truth.{anyOf}
-use Rattle.meaning.specs.Judging.Limits.{overSettling, overOffers}
-use Rattle.meaning.proofs.Judging.Alike.{copiesAlike}
 use Rattle.nodes.specs.Encoding.{numberAt}
 use Rattle.nodes.specs.Buffer.{Within}
-use Rattle.states.specs.Record.{Placed, processOf, boundOf, encodeRecord}
+use Rattle.states.specs.Record.{Placed, encodeRecord}
 use Rattle.states.specs.Course.{Going, going, found}
-use Rattle.walks.specs.Walking.{go}
 use Rattle.states.specs.Shown.{ShowsCourse}
-use Rattle.threads.specs.declared.task.Task.the-variants.{Seek}
 use Rattle.threads.specs.declared.task.Quest.{Quest}
 use Rattle.states.specs.declared.progress.Progress.{Progress}
-use Rattle.forms.proofs.Laws.Visit.{begins-shown}
-use Rattle.positions.specs.Located.{Acting, acting}
-use Rattle.positions.specs.Sought.{wanted, sentBy, first, offersBut}
-use Rattle.positions.proofs.Laws.SeekFirst.{soughtFirst}
+use Rattle.positions.specs.Located.{Acting}
+use Rattle.positions.specs.Sought.{wanted, sentBy, first}
 use Rattle.moves.specs.Spot.{offersOf}
-use Rattle.moves.specs.Threads.{Judged, Threads}
-use Rattle.forms.specs.Visit.{Begins, Labelled, Visits}
+use Rattle.moves.specs.Threads.{Threads}
+use Rattle.forms.specs.Visit.{nothingYet, Labelled}
 use Rattle.offers.specs.Seek.{Sight, seen, afresh, firstOf, firstAmong, ShowsSight, Looks, Seeks}
-use Rattle.forms.specs.Visit.{nothingYet}
+use Rattle.offers.specs.Pass.{Passes, Behind}
+use Rattle.offers.specs.declared.pass.Passed.{Passed}
 use Rattle.offers.specs.declared.seek.Sighting.{Sighting}
 use Rattle.moves.proofs.Laws.Threads.{first-thread, threads-kept, no-threads, record-end}
-
--- A walk over one thread finds the first of its offers, which do not depend on the name at which the thread was settled.
-thread-sought : (t : Placed) (q : Quest) (x : Message) {k : ℕ} (n : ℕ) → Judged k t → k ≤ n → q .but ≡ 0
-    → go (processOf (t .thread)) (Seek q n) x (t .place) (boundOf (t .thread)) (nothingYet n)
-    ≡ first q x (offersOf t n) (going (nothingYet n))
-unfolding overSettling settle anyOf names offersBut acting
-thread-sought t q x {k} n j l e = of (t .thread) (copiesAlike (t .thread) k n (j .stored) l ∙ j .free)
-  where
-    of : (u : Thread) → overOffers u n ≡ false
-        → go (processOf u) (Seek q n) x (t .place) (boundOf u) (nothingYet n)
-        ≡ first q x (acting (processOf u) (t .place) (boundOf u) 0 n) (going (nothingYet n))
-    of (act ρ p P) o =
-        soughtFirst q n x (processOf (act ρ p P)) (t .place) ρ (nothingYet n) refl (rw o) ∙ rw (e, offersBut)
-    of (repl ρ P) o =
-        soughtFirst q n x (processOf (repl ρ P)) (t .place) ρ (nothingYet n) refl (rw o) ∙ rw (e, offersBut)
-
-pub looks : (s label : List ℕ) (at : ℕ) {to : ℕ} (m : List ℕ) (q : Quest) (n : ℕ) (out : List ℕ) {now r : Progress} {after : List ℕ}
-    → Begins to n now → Visits s label at m (Seek q n) out now r after → Looks s label at to m q n out r after
-looks s label at m q n out {now} begins v = record {
-  exact = λ t x p j kn b d l1 l2 l3 l4.
-      let w = v .exact t x (nothingYet n) p d l1 l2 (l4 also l4 also none) tt (begins-shown now begins l3) in
-      rw (thread-sought t q x n j kn b) at w;
-}
 
 -- What is found first is seen first.
 shown-found : (s out : List ℕ) (r : Progress) (q : Quest) (x : Message) (at : ℕ) (os : List Acting) (g : Going) (later : Sight)
@@ -87,6 +56,15 @@ shown-going s out r q x at (a ∷ os) g later h o =
     by-test others true h = absurd (let z : true ≡ false = sym o ∙ h .off in let w : _≡_ {A = ℕ} 0 1 = cc in omega arith)
     by-test others false h = others h
 
+-- What a test that is turned says of it.
+pub untrue : (b : Bool) → not b ≡ true → b ≡ false
+untrue true e = absurd (true≢false (sym e))
+untrue false e = refl
+
+pub true-so : (b : Bool) → not b ≡ false → b ≡ true
+true-so true e = refl
+true-so false e = absurd (true≢false e)
+
 -- The record at the position skip is passed over, the offers of another are looked at.
 pub among-skipped : (q : Quest) (x : Message) (n skip at : ℕ) (t : Placed) (ts : List Placed) → eqb at skip ≡ true
     → firstAmong q x n skip at (t ∷ ts) ≡ firstAmong (afresh q) x n skip (at + length (encodeRecord t)) ts
@@ -100,15 +78,7 @@ unfolding firstAmong
 among-sought q x n skip at t ts e = rw (e, firstAmong)
 
 module _ (s label : List ℕ) (at to : ℕ) (m : List ℕ) (q : Quest) (skip n : ℕ) (out : List ℕ) where
-  pub seek-none : {r : Sighting} → r .done .mark ≡ 0 → to ≤ at → Seeks s label at to m q skip n out r out
-  unfolding firstAmong
-  seek-none {r} e l = record { exact = λ ps x h k b d f g i j. of ps x h }
-    where
-      of : (ps : List Placed) (x : Message) {k : ℕ} → Threads s out at k ps to → ShowsSight out r (firstAmong q x n skip at ps)
-      of [] x h = e
-      of (t ∷ ts) x h = absurd (omega (arith, record-end t ts h))
-
-  pub seek-short : {r : Sighting} → r .done .mark ≡ 0 → to - at < 4 → Seeks s label at to m q skip n out r out
+  seek-short : {r : Sighting} → r .done .mark ≡ 0 → to - at < 4 → Seeks s label at to m q skip n out r out
   unfolding firstAmong
   seek-short {r} e l = record { exact = λ ps x h k b d f g i j. of ps x h }
     where
@@ -116,59 +86,75 @@ module _ (s label : List ℕ) (at to : ℕ) (m : List ℕ) (q : Quest) (skip n :
       of [] x h = e
       of (t ∷ ts) x h = absurd (omega (arith, record-end t ts h))
 
-  module _ {size : ℕ} (z : size ≡ numberAt out (at + 2)) (some : at < to) where
-    next-record : (t : Placed) (ts : List Placed) {k : ℕ} → Threads s out at k (t ∷ ts) to → at + length (encodeRecord t) ≡ at + 4 + size
-    next-record t ts h = omega (arith, record-end t ts h)
+  module _ (some : at < to) {r₁ : Progress} {out₁ : List ℕ} (v : Looks s label at to m q n out r₁ out₁) (differs : at ≡ skip → ⊥) where
+    looked : (t : Placed) (ts : List Placed) (x : Message) {k : ℕ} → Threads s out at k (t ∷ ts) to → k ≤ n → q .but ≡ 0
+        → Labelled label x → length s ≤ 12288 → 10750 ≤ length m → to + 3964 ≤ length out → n ≤ 28664
+        → ShowsCourse s out₁ r₁ (first q x (offersOf t n) (going (nothingYet n)))
+    looked t ts x h kn b d l1 l2 l3 l4 = let (p, j, rest) = first-thread t ts h in v .exact t x p j kn b d l1 l2 l3 l4
 
-    pub seek-skipped : {f : Quest} {r : Sighting} {after : List ℕ} → f ≡ afresh q → at ≡ skip
-        → Seeks s label (at + 4 + size) to m f skip n out r after → Seeks s label at to m q skip n out r after
+    seek-found : r₁ .going ≡ false → Seeks s label at to m q skip n out (record { at = at; done = r₁ }) out₁
     unfolding firstAmong
-    seek-skipped {f} {r} {after} e same later = record { exact = of }
+    seek-found o = record { exact = of }
       where
         of : (ps : List Placed) (x : Message) {k : ℕ} → Threads s out at k ps to → k ≤ n → q .but ≡ 0 → Labelled label x
-            → length s ≤ 4096 → 10750 ≤ length m → to + 3964 ≤ length out → n ≤ 28664
+            → length s ≤ 12288 → 10750 ≤ length m → to + 3964 ≤ length out → n ≤ 28664
+            → ShowsSight out₁ (record { at = at; done = r₁ }) (firstAmong q x n skip at ps)
+        of [] x h kn b d l1 l2 l3 l4 = absurd (omega (arith, no-threads h))
+        of (t ∷ ts) x h kn b d l1 l2 l3 l4 =
+            rw (among-sought q x n skip at t ts (ne-eqb at skip differs))
+            (shown-found s out₁ r₁ q x at (offersOf t n) (nothingYet n) _ (looked t ts x h kn b d l1 l2 l3 l4) o)
+
+    seek-passed : {r : Sighting} {m₁ after : List ℕ} {high : ℕ} → r₁ .going ≡ true → Within 0 high m m₁ → Within to (length out) out out₁
+        → Seeks s label (at + 4 + numberAt out₁ (at + 2)) to m₁ (afresh q) skip n out₁ r after → Seeks s label at to m q skip n out r after
+    unfolding firstAmong
+    seek-passed {r} {m₁} {after} o wm wo later = record { exact = of }
+      where
+        of : (ps : List Placed) (x : Message) {k : ℕ} → Threads s out at k ps to → k ≤ n → q .but ≡ 0 → Labelled label x
+            → length s ≤ 12288 → 10750 ≤ length m → to + 3964 ≤ length out → n ≤ 28664
             → ShowsSight after r (firstAmong q x n skip at ps)
         of [] x h kn b d l1 l2 l3 l4 = absurd (omega (arith, no-threads h))
         of (t ∷ ts) x h kn b d l1 l2 l3 l4 =
-            let (p, j, rest) = first-thread t ts h in
-            let here = next-record t ts h in
-            rw (among-skipped q x n skip at t ts (eq-eqb at skip same), here, ← e) (later .exact ts x (rw here at rest) kn (rw e b) d l1 l2 l3 l4)
+            let kept = threads-kept (t ∷ ts) wo (omega arith) h in
+            let (p, j, rest) = first-thread t ts kept in
+            let here : at + length (encodeRecord t) ≡ at + 4 + numberAt out₁ (at + 2) = omega (arith, record-end t ts kept) in
+            let later-at = later .exact ts x (rw here at rest) kn b d l1 (omega (arith, wm .long)) (omega (arith, wo .long)) l4 in
+            let others = firstAmong (afresh q) x n skip (at + length (encodeRecord t)) ts in
+            let passed = shown-going s out₁ r₁ q x at (offersOf t n) (nothingYet n) others (looked t ts x h kn b d l1 l2 l3 l4) o in
+            rw (among-sought q x n skip at t ts (ne-eqb at skip differs), passed, here) later-at
 
-    module _ {r₁ : Progress} {out₁ : List ℕ} (v : Looks s label at to m q n out r₁ out₁) (differs : at ≡ skip → ⊥) where
-      looked : (t : Placed) (ts : List Placed) (x : Message) {k : ℕ} → Threads s out at k (t ∷ ts) to → k ≤ n → q .but ≡ 0
-          → Labelled label x → length s ≤ 4096 → 10750 ≤ length m → to + 3964 ≤ length out → n ≤ 28664
-          → ShowsCourse s out₁ r₁ (first q x (offersOf t n) (going (nothingYet n)))
-      looked t ts x h kn b d l1 l2 l3 l4 = let (p, j, rest) = first-thread t ts h in v .exact t x p j kn b d l1 l2 l3 l4
+-- What is seen from the position i on, as the bytes are now, is what is seen from the position at on, as they were; and the record there is
+-- not the one at the position skip.
+pub record Comes (s label : List ℕ) (to skip n at : ℕ) (q : Quest) (m out : List ℕ) (i : ℕ) (here : Quest) (m₁ out₁ : List ℕ) : Type 0 where
+  pub same : {r : Sighting} {after : List ℕ} → Seeks s label i to m₁ here skip n out₁ r after → Seeks s label at to m q skip n out r after
+  pub other : i < to → 4 ≤ to - i → i ≡ skip → ⊥
 
-      pub seek-found : r₁ .going ≡ false → Seeks s label at to m q skip n out (record { at = at; done = r₁ }) out₁
-      unfolding firstAmong
-      seek-found o = record { exact = of }
-        where
-          of : (ps : List Placed) (x : Message) {k : ℕ} → Threads s out at k ps to → k ≤ n → q .but ≡ 0 → Labelled label x
-              → length s ≤ 4096 → 10750 ≤ length m → to + 3964 ≤ length out → n ≤ 28664
-              → ShowsSight out₁ (record { at = at; done = r₁ }) (firstAmong q x n skip at ps)
-          of [] x h kn b d l1 l2 l3 l4 = absurd (omega (arith, no-threads h))
-          of (t ∷ ts) x h kn b d l1 l2 l3 l4 =
-              rw (among-sought q x n skip at t ts (ne-eqb at skip differs))
-              (shown-found s out₁ r₁ q x at (offersOf t n) (nothingYet n) _ (looked t ts x h kn b d l1 l2 l3 l4) o)
+module _ {s label m₀ out₀ : List ℕ} {at to skip n : ℕ} {q : Quest} {p : Passed} (pass : Passes s label at to q skip out₀ p) where
+  pub comes-first : Comes s label to skip n (p .at) (p .quest) m₀ out₀ (p .at) (p .quest) m₀ out₀
+  comes-first = record { same = λ v. v; other = pass .other }
 
-      pub seek-passed : {f : Quest} {r : Sighting} {m₁ after : List ℕ} {high : ℕ} → f ≡ afresh q → r₁ .going ≡ true → Within 0 high m m₁
-          → Within to (length out) out out₁ → Seeks s label (at + 4 + size) to m₁ f skip n out₁ r after
-          → Seeks s label at to m q skip n out r after
-      unfolding firstAmong
-      seek-passed {f} {r} {m₁} {after} e o wm wo later = record { exact = of }
-        where
-          of : (ps : List Placed) (x : Message) {k : ℕ} → Threads s out at k ps to → k ≤ n → q .but ≡ 0 → Labelled label x
-              → length s ≤ 4096 → 10750 ≤ length m → to + 3964 ≤ length out → n ≤ 28664
-              → ShowsSight after r (firstAmong q x n skip at ps)
-          of [] x h kn b d l1 l2 l3 l4 = absurd (omega (arith, no-threads h))
-          of (t ∷ ts) x h kn b d l1 l2 l3 l4 =
-              let (p, j, rest) = first-thread t ts h in
-              let here = next-record t ts h in
-              let kept = threads-kept ts wo (omega arith) rest in
-              let later-at = later .exact ts x (rw here at kept) kn (rw e b) d l1 (omega (arith, wm .long)) (omega (arith, wo .long)) l4 in
-              let others = firstAmong (afresh q) x n skip (at + length (encodeRecord t)) ts in
-              let passed = shown-going s out₁ r₁ q x at (offersOf t n) (nothingYet n) others (looked t ts x h kn b d l1 l2 l3 l4) o in
-              rw (among-sought q x n skip at t ts (ne-eqb at skip differs), passed, here, ← e) later-at
+  module _ {i : ℕ} {here : Quest} {m out : List ℕ} (come : Comes s label to skip n (p .at) (p .quest) m₀ out₀ i here m out) where
+    pub comes-last : {r : Sighting} → r .done .mark ≡ 0 → to - 4 < i → Seeks s label at to m₀ q skip n out₀ r out
+    comes-last e l = pass .onward .same m₀ n (come .same (seek-short s label i to m here skip n out e (omega arith)))
 
-pub ruleset seekings = (seek-none, seek-short, seek-skipped, seek-found, seek-passed)
+    module _ (long : 4 ≤ to) (some : i ≤ to - 4) {r₁ : Progress} {out₁ : List ℕ} (v : Looks s label i to m here n out r₁ out₁) where
+      pub comes-found : not (r₁ .going) ≡ true → Seeks s label at to m₀ q skip n out₀ (record { at = i; done = r₁ }) out₁
+      comes-found o =
+          let differs = come .other (omega arith) (omega arith) in
+          pass .onward .same m₀ n (come .same (seek-found s label i to m here skip n out (omega arith) v differs (untrue (r₁ .going) o)))
+
+      pub comes-further : {high : ℕ} {m₁ : List ℕ} {next : Passed} → not (r₁ .going) ≡ false → Within 0 high m m₁
+          → Within to (length out) out out₁ → Behind s label i to here skip out₁ next
+          → Comes s label to skip n (p .at) (p .quest) m₀ out₀ (next .at) (next .quest) m₁ out₁
+      comes-further {m₁ = m₁} o wm wo later =
+          let differs = come .other (omega arith) (omega arith) in
+          record {
+            same = λ w. come .same (seek-passed s label i to m here skip n out (omega arith) v differs (true-so (r₁ .going) o) wm wo
+                (later .passes .onward .same m₁ n w));
+            other = later .passes .other;
+          }
+
+pub comes-none : {s label m out : List ℕ} {at to skip n : ℕ} {q : Quest} {r : Sighting} → r .done .mark ≡ 0 → to < 4
+    → Seeks s label at to m q skip n out r out
+comes-none {s} {label} {m} {out} {at} {to} {skip} {n} {q} e l = seek-short s label at to m q skip n out e (omega arith)
+
+pub ruleset seekings = (comes-first, comes-last, comes-found, comes-further, comes-none)

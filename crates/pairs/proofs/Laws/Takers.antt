@@ -37,7 +37,7 @@ use Rattle.moves.specs.declared.step.Step as code
 use Rattle.moves.specs.declared.step.Next.{Next}
 use Rattle.moves.specs.declared.step.Next.the-variants as next
 use Rattle.moves.specs.declared.step.Label.the-variants.{Silent}
-use Rattle.moves.proofs.Laws.Threads.{process-ends}
+use Rattle.moves.proofs.Laws.Threads.{process-ends, process-inside}
 use Rattle.moves.proofs.Laws.CopyMoves.{mode-of}
 use Rattle.forms.proofs.Laws.Visit.{news-short}
 use Rattle.pairs.proofs.Laws.Look.{opening-at}
@@ -66,7 +66,7 @@ module _ {s out m : List ℕ} {start at k to mode copy : ℕ} (p : Spot) (w : Op
   taker-later : Later (takersAt mode w a) w
   taker-later =
       let P = processOf (p .thread .thread) in
-      let few : news P ≤ 4096 = omega (arith, news-short P, process-ends (p .thread) (d .thread .recorded .standing), d .thread .short) in
+      let few : news P ≤ 4096 = omega (arith, news-short P, process-inside (p .thread) (d .thread .recorded .standing)) in
       let most = opening-at (p .thread) (d .pre) (d .post) w (d .thread .judged) (d .listed) .small in
       record {
         mode = d .mode-high;

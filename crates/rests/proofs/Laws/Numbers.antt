@@ -60,7 +60,7 @@ listed-one {Q = Q} before a after e p = first (every-parts before (rw e at p) .1
     first (q also qs) = q
 
 -- Small names fit whatever process stands in a model.
-names-fitting : {s : List ℕ} {at left scope next : ℕ} (n : ℕ) (P : Process) → ProcessAt s at left scope P next → length s ≤ 4096 → n ≤ 28664
+names-fitting : {s : List ℕ} {at left scope next : ℕ} (n : ℕ) (P : Process) → ProcessAt s at left scope P next → length s ≤ 12288 → n ≤ 28664
     → n + news P ≤ 32760
 names-fitting n P p short h = names-small Count n P p short (h also none) .own
 

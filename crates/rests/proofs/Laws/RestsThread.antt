@@ -23,7 +23,7 @@ use Rattle.moves.proofs.Laws.MovesSpots as spots
 use Rattle.moves.proofs.Laws.Opened.{Acts, acting-all}
 use Rattle.rests.proofs.Laws.RestsMoves.{Among}
 use Rattle.moves.proofs.Laws.Start.{held-threads}
-use Rattle.moves.proofs.Laws.Threads.{first-thread, threads-from, stands-short}
+use Rattle.moves.proofs.Laws.Threads.{first-thread, threads-from}
 use Rattle.forms.proofs.Laws.Visit.{news-short}
 
 -- A thread of a state, and room for walks over it.
@@ -44,8 +44,8 @@ thread-at {s} {out} {m} {st} {S} h l p stands =
     })
 
 -- A process that stands in a model has no more `new` nodes than the model has bytes; so has that of a thread.
-pub few-news : {s : List ℕ} {at left scope next : ℕ} (P : Process) → ProcessAt s at left scope P next → length s ≤ 4096 → news P ≤ 4096
-few-news P p l = omega (arith, news-short P, stands-short (p .stands))
+pub few-news : {s : List ℕ} {at left scope next : ℕ} (P : Process) → ProcessAt s at left scope P next → length s ≤ 12288 → news P ≤ 4096
+few-news P p l = omega (arith, news-short P, p .stands .size, p .inside)
 
 pub later-few : {s out m : List ℕ} {at k to : ℕ} (t : Placed) → ThreadAt s out m at k to t → laterNews (processOf (t .thread)) ≤ 4096
 later-few t h =

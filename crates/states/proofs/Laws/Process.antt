@@ -9,6 +9,7 @@ use Rattle.meaning.specs.Messages.Term.{Term}
 use Rattle.meaning.specs.Bytes.Process.{Prefix, output, input, Process, nil, new, act, if, let-in, par, repl}
 use Rattle.meaning.specs.Bytes.Encoding.{encodeTerm, encodeProcess}
 use Rattle.meaning.proofs.Bytes.Reading.Place.{parts}
+use Rattle.indexes.specs.Index.{InModel}
 use Rattle.layouts.proofs.Laws.Standing.{first-byte, goes-on}
 use Rattle.terms.specs.Work.{TermAt}
 use Rattle.states.specs.Place.{ProcessAt, thenAt, elseAt, bodyAt, rightAt}
@@ -46,6 +47,10 @@ shape (par P Q) = (P, Q, refl)
 shape (repl P) = (P, refl)
 
 module _ {s : List ℕ} {at left scope next : ℕ} where
+  -- It is among the bytes of the model, and in the index.
+  pub in-model : {P : Process} → ProcessAt s at left scope P next → InModel s at P next
+  in-model p = record { stands = p .stands; indexed = p .indexed; inside = p .inside }
+
   -- A kind stands first, and a node is left for it.
   pub process-kind : (P : Process) → ProcessAt s at left scope P next → (getD s at 0 ≡ kindOf P) × (at < length s) × (1 ≤ left)
   unfolding encodeProcess
@@ -73,6 +78,8 @@ module _ {s : List ℕ} {at left scope next : ℕ} where
         terms = p .terms;
         scoped = p .scoped;
         few = omega (arith, p .few);
+        indexed = p .indexed .1;
+        inside = p .inside;
       }
 
   pub of-if : (M N : Term) (P Q : Process) → ProcessAt s at left scope (if M N P Q) next
@@ -93,6 +100,8 @@ module _ {s : List ℕ} {at left scope next : ℕ} where
           terms = omega (arith, p .terms);
           scoped = p .scoped .2;
           few = omega (arith, p .few);
+          indexed = p .indexed .1;
+          inside = omega (arith, p .inside, y .size);
         },
         record {
           stands = rw fourth at y;
@@ -100,6 +109,8 @@ module _ {s : List ℕ} {at left scope next : ℕ} where
           terms = omega (arith, p .terms);
           scoped = p .scoped .3;
           few = omega (arith, p .few);
+          indexed = p .indexed .2;
+          inside = p .inside;
         },
       )
 
@@ -116,6 +127,8 @@ module _ {s : List ℕ} {at left scope next : ℕ} where
           terms = omega (arith, p .terms);
           scoped = p .scoped .1;
           few = omega (arith, p .few);
+          indexed = p .indexed .1;
+          inside = p .inside;
         },
       )
 
@@ -131,6 +144,8 @@ module _ {s : List ℕ} {at left scope next : ℕ} where
           terms = omega (arith, p .terms);
           scoped = p .scoped .0;
           few = omega (arith, p .few);
+          indexed = p .indexed .1;
+          inside = omega (arith, p .inside, y .size);
         },
         record {
           stands = rw second at y;
@@ -138,6 +153,8 @@ module _ {s : List ℕ} {at left scope next : ℕ} where
           terms = omega (arith, p .terms);
           scoped = p .scoped .1;
           few = omega (arith, p .few);
+          indexed = p .indexed .2;
+          inside = p .inside;
         },
       )
 
@@ -151,6 +168,8 @@ module _ {s : List ℕ} {at left scope next : ℕ} where
         terms = p .terms;
         scoped = p .scoped;
         few = p .few;
+        indexed = p .indexed .1;
+        inside = p .inside;
       }
 
   -- Channel and message of an output, and the channel of an input.
@@ -186,6 +205,8 @@ module _ {s : List ℕ} {at left scope next : ℕ} where
         terms = omega (arith, p .terms);
         scoped = rw zero-add at (p .scoped .1);
         few = omega (arith, p .few);
+        indexed = p .indexed .1;
+        inside = p .inside;
       }
 
   pub after-input : (C : Term) (P : Process) → ProcessAt s at left scope (act (input C) P) next
@@ -201,4 +222,6 @@ module _ {s : List ℕ} {at left scope next : ℕ} where
         terms = omega (arith, p .terms);
         scoped = rw one at (p .scoped .1);
         few = omega (arith, p .few);
+        indexed = p .indexed .1;
+        inside = p .inside;
       }

@@ -68,7 +68,7 @@ module _ {s out : List ℕ} {now : Progress} {g : Going} {v size : ℕ} (t : Pla
   sized = l ∙ boundLength (boundOf (t .thread))
 
   -- Where there is no room, the state would be over a limit: its bytes are never what is short.
-  pub none-more : {b : Grown} → Grows (now .state) v size (length out) b → b ≡ Full → push (t .place) (t .thread) g ≡ over-limit
+  none-more : {b : Grown} → Grows (now .state) v size (length out) b → b ≡ Full → push (t .place) (t .thread) g ≡ over-limit
   none-more grows e =
       over-one (t .place) (t .thread) g (λ h o. grows .none e (record {
         threads = omega (arith, d .threads);
@@ -77,7 +77,7 @@ module _ {s out : List ℕ} {now : Progress} {g : Going} {v size : ℕ} (t : Pla
         bytes = omega (arith, d .size, d .room, d .threads, d .nodes, sized, few);
       }))
 
-  pub written-more : {b : Grown} {f : State} {after : List ℕ} {high : ℕ} → Grows (now .state) v size (length out) b → b ≡ To f
+  written-more : {b : Grown} {f : State} {after : List ℕ} {high : ℕ} → Grows (now .state) v size (length out) b → b ≡ To f
       → Stands after (now .state .end) (encodeRecord t) (now .state .end + 4 + size) → Within (now .state .end) high out after
       → ShowsCourse s after (record { going = true; names = now .names; mark = 0; sent = 0; state = f }) (push (t .place) (t .thread) g)
   written-more {f = f} grows e x k =

@@ -88,7 +88,7 @@ pub record Known (start k to long : ℕ) (ps : List Placed) (w : Party) : Type 0
   pub sending : Sending k long (w .offer)
 
 pub sender-known : {s out : List ℕ} {start k to : ℕ} (x : ℕ) (ps ls ts : List Placed) {w : Party} {others : List Party}
-    → Threads s out start k ps to → ps ≡ ls ++ ts → length s ≤ 4096 → k ≤ 128 → sendersFrom k x (spotsFrom ls ts) ≡ w ∷ others
+    → Threads s out start k ps to → ps ≡ ls ++ ts → length s ≤ 12288 → k ≤ 128 → sendersFrom k x (spotsFrom ls ts) ≡ w ∷ others
     → Known start k to (length s) ps w
 unfolding sendersFrom
 sender-known {s} {out} {start} {k} {to} x ps ls ts {w} {others} h split short few e =

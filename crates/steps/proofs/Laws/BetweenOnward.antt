@@ -120,7 +120,7 @@ module _ {s : List ℕ} {start k to : ℕ} {m : List ℕ} {now : Sighting} {take
 
 -- The first sender follows where it was sought.
 sender-ahead : {s out : List ℕ} {start at k to : ℕ} (x : ℕ) (ps ls ts : List Placed) (w : Party) (others : List Party) (r : Sighting)
-    → Threads s out start k ps to → ps ≡ ls ++ ts → at ≡ start + length (encodeRecords ls) → length s ≤ 4096 → k ≤ 128
+    → Threads s out start k ps to → ps ≡ ls ++ ts → at ≡ start + length (encodeRecords ls) → length s ≤ 12288 → k ≤ 128
     → sendersFrom k x (spotsFrom ls ts) ≡ w ∷ others → {after : List ℕ} → Sees after r (recordAt start (w .spot)) (w .offer)
     → Ahead at x to (length s) (r .at) (r .done .mark)
 unfolding sendersFrom
@@ -184,10 +184,10 @@ module _ {s : List ℕ} {start at k to : ℕ} {m : List ℕ} {x : ℕ} {out mess
 pub ruleset betweens = (between-none, between-onward)
 
 -- The measure falls from a sender to the next one.
-pub ahead-falls : {at x to long place mark t : ℕ} {b : Bool} → Follows at x to long place mark b → b ≡ true → long ≤ 4096
-    → 2 * (5000 * (to - at) + (5000 - x)) ≡ t → 2 * (5000 * (to - place) + (5000 - mark)) + 1 < t
+pub ahead-falls : {at x to long place mark t : ℕ} {b : Bool} → Follows at x to long place mark b → b ≡ true → long ≤ 12288
+    → 2 * (13000 * (to - at) + (13000 - x)) ≡ t → 2 * (13000 * (to - place) + (13000 - mark)) + 1 < t
 ahead-falls {at} {x} {to} {long} {place} {mark} {t} f e l z = by-place (f .sound e) (eqb place at) refl
   where
-    by-place : Ahead at x to long place mark → (c : Bool) → eqb place at ≡ c → 2 * (5000 * (to - place) + (5000 - mark)) + 1 < t
+    by-place : Ahead at x to long place mark → (c : Bool) → eqb place at ≡ c → 2 * (13000 * (to - place) + (13000 - mark)) + 1 < t
     by-place a true c = let h = eqb-true place at c in omega (arith, a .within, a .below, a .after h)
     by-place a false c = let h = eqb-false place at c in omega (arith, a .some, a .within, a .below, a .later)

@@ -9,20 +9,25 @@ use lib.ListN.{length}
 use borrow.Author.Tests.{eq-eqb, ne-eqb}
 use Rattle.meaning.specs.Messages.Term.{Message}
 use Rattle.meaning.specs.Steps.State.{Thread, act, repl, names}
+use Rattle.meaning.proofs.Every.{every-parts}
 use Rattle.nodes.specs.Encoding.{numberAt}
 use Rattle.nodes.specs.Buffer.{Within}
+use Rattle.nodes.proofs.Laws.Buffer.{unchanged}
 use Rattle.states.specs.Record.{Placed, encodeRecord}
 use Rattle.states.specs.Course.{Going, Course, going, over-limit, found, further, push}
 use Rattle.states.specs.Shown.{Shows, ShowsCourse}
-use Rattle.states.specs.Stored.{Keeps}
 use Rattle.states.specs.Progress.{Extends}
 use Rattle.threads.specs.declared.task.Task.{Task}
 use Rattle.states.specs.declared.progress.Progress.{Progress}
 use Rattle.walks.proofs.Laws.Course.{Ends, Next, ends-either, push-next, go-names}
 use Rattle.states.proofs.Laws.Stored.{record-parts}
+use Rattle.positions.specs.Rebuilt.{pushAll}
+use Rattle.positions.proofs.Laws.Writing.{pushAll-names}
 use Rattle.moves.specs.Threads.{Threads}
 use Rattle.forms.specs.Visit.{Visits}
-use Rattle.successors.specs.Rebuild.{goOver, renewed, rebuilt, Prepared, Renews, Rebuilds}
+use Rattle.successors.specs.Block.{Still, Halts, Keeps}
+use Rattle.successors.specs.declared.block.Block.{Block}
+use Rattle.successors.specs.Rebuild.{goOver, renewed, rebuilt, Prepared, Acts, Renews, Rebuilds, Resumes}
 use Rattle.moves.proofs.Laws.Threads.{first-thread, threads-kept, no-threads}
 use Rattle.moves.proofs.Laws.Records.{record-long}
 
@@ -40,26 +45,21 @@ module _ (x : Message) (i : ℕ) (T : Task) (j : ℕ) (U : Task) (at : ℕ) (t :
   unfolding renewed
   renewed-others f e = rw (ne-eqb at i f, ne-eqb at j e, renewed)
 
--- So one thread is done.
+-- So a thread that acts is done.
 module _ {s label m out after : List ℕ} {at i j : ℕ} {T U : Task} {now r : Progress} where
   pub at-first : at ≡ i → Visits s label at m T out now r after → Renews s label at m i T j U out now r after
   at-first e v = record {
-    exact = λ t x g h l p d.
+    exact = λ a t x g h l p d.
         rw (renewed-first x i T j U at t g e) (v .exact t x g h (p .labelled) (p .short) (p .room) (p .names) (p .meant) d);
   }
 
-  pub at-second : (at ≡ i → ⊥) → at ≡ j → Visits s label at m U out now r after → Renews s label at m i T j U out now r after
-  at-second f e v = record {
-    exact = λ t x g h l p d.
-        rw (renewed-second x i T j U at t g f e) (v .exact t x g h (p .labelled) (p .short) (p .room) (p .other-names) (p .other-meant) d);
+  pub at-second : (at ≡ i → ⊥) → Visits s label at m U out now r after → Renews s label at m i T j U out now r after
+  at-second f v = record {
+    exact = λ a t x g h l p d.
+        rw (renewed-second x i T j U at t g f (a f)) (v .exact t x g h (p .labelled) (p .short) (p .room) (p .other-names) (p .other-meant) d);
   }
 
-  pub at-others : (at ≡ i → ⊥) → (at ≡ j → ⊥) → Keeps out at now r after → Renews s label at m i T j U out now r after
-  at-others f e v = record {
-    exact = λ t x g h l p d. rw (renewed-others x i T j U at t g f e) (v .exact s t g (h .stands) l (h .standing) d);
-  }
-
-pub ruleset renewals = (at-first, at-second, at-others)
+pub ruleset renewals = (at-first, at-second)
 
 -- Whatever is done at a thread, the names are given back.
 goOver-next : (t : Placed) (T : Task) (x : Message) (g : Going) → Ends (Next (g .names)) (goOver t T x g)
@@ -99,47 +99,77 @@ module _ {s label m out : List ℕ} {at to i j : ℕ} {T U : Task} {now : Progre
   pub at-the-end : to ≤ at → Rebuilds s label at to m i T j U out now now out
   at-the-end e = none-here (λ h. omega arith)
 
-  pub near-the-end : to - at < 4 → Rebuilds s label at to m i T j U out now now out
-  near-the-end e = none-here (λ h. omega arith)
+  as-resumes : Rebuilds s label at to m i T j U out now now out → Resumes s label at to m i T j U out now now out
+  as-resumes w = record { stopped = w .stopped; acting = λ a. w }
 
--- One thread, and then the others.
+  pub no-rest : not (now .going) ≡ true → Resumes s label at to m i T j U out now now out
+  no-rest e = as-resumes (no-more e)
+
+  pub no-record : to - at < 4 → Resumes s label at to m i T j U out now now out
+  no-record e = as-resumes (none-here (λ h. omega arith))
+
+-- Whatever was done so far, the others are rebuilt if the walk goes on.
+module _ {s label m m₁ out₁ after : List ℕ} {at to i j high n : ℕ} {T U : Task} {now first r : Progress}
+    (off : first .going ≡ false → (r ≡ first) × (after ≡ out₁)) (on : first .going ≡ true → Rebuilds s label at to m₁ i T j U out₁ first r after)
+    (k : Within 0 high m m₁) (e : Extends now first) (l : to ≤ now .state .end) (ts : List Placed) (x : Message) (g : Going)
+    (h : Threads s out₁ at n ts to) (p : Prepared s label m T U x (g .names)) where
+  others-too : (c : Course) → ((h : Going) → c ≡ going h → h .names ≡ g .names) → ShowsCourse s out₁ first c
+      → ShowsCourse s after r (further c (rebuilt x i T j U at ts))
+  others-too (going h₁) same d =
+      on (d .on) .exact ts x h₁ h (omega (arith, e .end)) (rw (same h₁ refl) (record {
+        labelled = p .labelled;
+        short = p .short;
+        room = omega (arith, p .room, k .long);
+        names = p .names;
+        other-names = p .other-names;
+        meant = p .meant;
+        other-meant = p .other-meant;
+      })) d
+  others-too over-limit same d = rw (off (d .off) .0) d
+  others-too (found at₁ n ms) same d = let (is, as-was) = off (d .off) in rw (is, as-was) d
+
+-- A thread that acts, and then the others.
 module _ {s label m m₁ out out₁ after : List ℕ} {at to i j size high : ℕ} {T U : Task} {now first r : Progress} where
   pub one-more : not (now .going) ≡ false → 4 ≤ to - at → size ≡ numberAt out (at + 2)
       → Renews s label at m i T j U out now first out₁ → Rebuilds s label (at + 4 + size) to m₁ i T j U out₁ first r after
       → Extends now first → Within 0 high m m₁ → Within (now .state .end) (length out) out out₁
-      → Rebuilds s label at to m i T j U out now r after
+      → Resumes s label at to m i T j U out now r after
   unfolding rebuilt
   one-more on far z v w e k o = record {
-    stopped = λ f. absurd (true≢false (ap not (sym f) ∙ on));
-    exact = λ ps x g h l p d. by-threads ps x g h l p d;
+    stopped = λ f. absurd (goes f);
+    acting = λ a. record { stopped = λ f. absurd (goes f); exact = λ ps x g h l p d. by-threads (a far) ps x g h l p d };
   }
     where
-      others : (t : Placed) (ts : List Placed) (x : Message) (g : Going) {n : ℕ} → Threads s out₁ (at + 4 + size) n ts to → to ≤ now .state .end
-          → Prepared s label m T U x (g .names) → (c : Course) → renewed x i T j U at t g ≡ c → ShowsCourse s out₁ first c
-          → ShowsCourse s after r (further c (rebuilt x i T j U (at + 4 + size) ts))
-      others t ts x g h l p (going h₁) same d =
-          w .exact ts x h₁ h (omega (arith, e .end)) (rw (renewed-names x i T j U at t g h₁ same) (record {
-            labelled = p .labelled;
-            short = p .short;
-            room = omega (arith, p .room, k .long);
-            names = p .names;
-            other-names = p .other-names;
-            meant = p .meant;
-            other-meant = p .other-meant;
-          })) d
-      others t ts x g h l p over-limit same d = rw (w .stopped (d .off) .0) d
-      others t ts x g h l p (found at₁ n ms) same d = let (is, as-was) = w .stopped (d .off) in rw (is, as-was) d
+      goes : now .going ≡ false → ⊥
+      goes f = true≢false (ap not (sym f) ∙ on)
 
-      by-threads : (ps : List Placed) (x : Message) (g : Going) {n : ℕ} → Threads s out at n ps to → to ≤ now .state .end
+      by-threads : Acts i j at → (ps : List Placed) (x : Message) (g : Going) {n : ℕ} → Threads s out at n ps to → to ≤ now .state .end
           → Prepared s label m T U x (g .names) → Shows s out now g → ShowsCourse s after r (rebuilt x i T j U at ps g)
-      by-threads [] x g h l p d = absurd (omega (arith, no-threads h))
-      by-threads (t ∷ ts) x g h l p d =
+      by-threads acts [] x g h l p d = absurd (omega (arith, no-threads h))
+      by-threads acts (t ∷ ts) x g h l p d =
           let (a, b, c) = first-thread t ts h in
           let (place, long, bound) = record-parts t (a .stands) in
           let here : at + length (encodeRecord t) ≡ at + 4 + size = omega (arith, bound .size) in
           let rest = threads-kept ts o l (rw here at c) in
           rw here
-          (others t ts x g rest l p (renewed x i T j U at t g) refl
-          (v .exact t x g a (omega (arith, c .stands .size)) p d))
+          (others-too (w .stopped) (λ on. w) k e l ts x g rest p (renewed x i T j U at t g) (renewed-names x i T j U at t g)
+          (v .exact acts t x g a (omega (arith, c .stands .size)) p d))
 
-pub ruleset rebuilds = (no-more, at-the-end, near-the-end)
+-- A block of threads that do not act, and then the others.
+module _ {s label m out out₁ after : List ℕ} {at to i j : ℕ} {T U : Task} {b : Block} {now first r : Progress} where
+  pub after-block : not (now .going) ≡ false → Still out at to i j b → Halts out to i j b → Keeps out at b now first out₁ → Extends now first
+      → Within (now .state .end) (length out) out out₁ → Resumes s label (b .end) to m i T j U out₁ first r after
+      → Rebuilds s label at to m i T j U out now r after
+  after-block on v u k e o w = record {
+    stopped = λ f. absurd (true≢false (ap not (sym f) ∙ on));
+    exact = λ ps x g h l p d.
+        let q = v .exact s ps h in
+        let (standing, others) = every-parts (q .front) (rw (q .whole) at (h .standing)) in
+        let shown = k .exact s (q .front) g (q .block) (omega (arith, q .behind .stands .size)) standing d in
+        let rest = threads-kept (q .others) o l (q .behind) in
+        rw (q .same x T U g)
+        (others-too (w .stopped) (λ on. w .acting (λ far. u .acts s (q .others) (q .behind) far (k .light on))) (unchanged {low = 0} {high = 0})
+        e l (q .others) x g rest p (pushAll (q .front) g) (pushAll-names (q .front) g) shown);
+  }
+
+pub ruleset rebuilds = (no-more, at-the-end, no-rest, no-record)

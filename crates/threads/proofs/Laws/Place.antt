@@ -7,7 +7,7 @@ use native.Mathlib.Omega.{arith}
 use borrow.Author.Tests.{lt-ltb, le-ltb}
 use lib.ListN.{length}
 use Rattle.meaning.specs.Bytes.Encoding.{encodeProcess}
-use Rattle.layouts.specs.Ends.{ProcessEnd}
+use Rattle.indexes.specs.Index.{Ends}
 use Rattle.threads.specs.Machine.{holds}
 use Rattle.threads.specs.Thread.{Chosen, Held}
 
@@ -15,7 +15,7 @@ module _ {s : List ℕ} {at : ℕ} {same : Bool} where
   pub takes-first : same ≡ true → Chosen s at same at
   takes-first e = record { first = λ f. refl; second = λ f. absurd (true≢false (sym e ∙ f)) }
 
-  pub takes-second : {r : ℕ} → same ≡ false → ProcessEnd s at r → Chosen s at same r
+  pub takes-second : {r : ℕ} → same ≡ false → Ends s at r → Chosen s at same r
   takes-second e p = record { first = λ f. absurd (true≢false (sym f ∙ e)); second = λ f. p }
 
 pub ruleset chosens = (takes-first, takes-second)
@@ -26,18 +26,18 @@ module _ {s : List ℕ} {at mark : ℕ} where
   unfolding holds
   before-it h = record { exact = λ P p. rw (le-ltb at mark h) }
 
-  pub in-it : {r : ℕ} → at < mark → ProcessEnd s at r → mark ≤ r → Held s at mark true
+  pub in-it : {r : ℕ} → at < mark → Ends s at r → mark ≤ r → Held s at mark true
   unfolding holds
   in-it h l k = record {
     exact = λ P p.
-        rw (lt-ltb at mark h, le-ltb (at + length (encodeProcess P)) mark (omega (arith, l .same P p, p .size)));
+        rw (lt-ltb at mark h, le-ltb (at + length (encodeProcess P)) mark (omega (arith, l .same P p, p .stands .size)));
   }
 
-  pub behind-it : {r : ℕ} → at < mark → ProcessEnd s at r → r < mark → Held s at mark false
+  pub behind-it : {r : ℕ} → at < mark → Ends s at r → r < mark → Held s at mark false
   unfolding holds
   behind-it h l k = record {
     exact = λ P p.
-        rw (lt-ltb at mark h, lt-ltb (at + length (encodeProcess P)) mark (omega (arith, l .same P p, p .size)));
+        rw (lt-ltb at mark h, lt-ltb (at + length (encodeProcess P)) mark (omega (arith, l .same P p, p .stands .size)));
   }
 
 pub ruleset marks = (before-it, in-it, behind-it)

@@ -1,6 +1,5 @@
 -- A copy of a repl thread that is opened ("Steps"). Assumes nothing.
-use mathlib.Core.Path.{_≡_, refl, subst}
-use mathlib.Core.Bool.{true, false}
+use mathlib.Core.Path.{_≡_}
 use mathlib.Core.List.{List}
 use Prim.Native.Nat.{ℕ, _+_, _-_, _≤_}
 use native.Mathlib.Omega.{arith}
@@ -8,23 +7,25 @@ use Rattle.meaning.specs.Messages.Term.{Message}
 use Rattle.meaning.specs.Bytes.Process.{Process}
 use Rattle.meaning.specs.Steps.State.{Bound, repl}
 use Rattle.nodes.specs.Buffer.{Within}
-use Rattle.nodes.proofs.Laws.Buffer.{unchanged}
-use Rattle.walks.specs.News.{news}
+use Rattle.walks.specs.News.{news, laterNews}
 use Rattle.states.specs.Course.{Going, Course, going, over-limit, found, named, returned}
 use Rattle.threads.specs.Machine.{opening, opened}
 use Rattle.walks.specs.Walking.{go}
-use Rattle.states.specs.Shown.{Shows, ShowsCourse}
+use Rattle.states.specs.Shown.{ShowsCourse}
 use Rattle.walks.specs.Walk.{NamesFit, Meant, Ready, Walks, Returns, Opens}
-use Rattle.states.specs.Progress.{Renamed}
+use Rattle.walks.specs.Count.{countOf, Counts}
+use Rattle.walks.specs.declared.count.Counted.{Counted}
+use Rattle.walks.specs.declared.count.Counted.the-variants.{Names, OverLimit}
+use Rattle.states.specs.Progress.{Stopped, Renamed}
 use Rattle.threads.specs.declared.task.Task.{Task}
-use Rattle.threads.specs.declared.task.Task.the-variants.{Count}
 use Rattle.states.specs.declared.progress.Progress.{Progress}
 use Rattle.states.proofs.Laws.Process.{of-repl}
-use Rattle.states.proofs.Laws.Progress.{still-shows, renamed-shows}
+use Rattle.states.proofs.Laws.Progress.{renamed-shows}
 use Rattle.threads.proofs.Laws.Offer.{bound-still}
-use Rattle.walks.proofs.Laws.Fits.{fits-none, fits-opening, meant-opening}
-use Rattle.walks.proofs.Laws.Course.{go-fits}
-use Rattle.states.proofs.Laws.Written.{no-further, goes-further}
+use Rattle.walks.proofs.Laws.Fits.{fits-opening, meant-opening}
+use Rattle.walks.proofs.Laws.Course.{names-fit}
+use Rattle.walks.proofs.Laws.Counting.{counted}
+use Rattle.walks.proofs.Laws.Count.{counted-over, counted-names}
 
 -- The names are given back.
 pub names-back : {s label m out after : List ℕ} {at left end before : ℕ} {T : Task} {now done r : Progress}
@@ -57,39 +58,33 @@ copy-ready P U h y k f u = record {
 }
 
 -- Its names are counted, and then the task is done in it.
-module _ {s label m out out₁ : List ℕ} {at left end opens : ℕ} {T : Task} {now d counted : Progress} (n : Renamed now opens d)
-    (w : Walks s label (at + 1) (left - 1) m end Count out d counted out₁) where
+module _ {s label m : List ℕ} {at left end opens : ℕ} {T : Task} {a : Counted} (c : Counts s (at + 1) (left - 1) m end opens a) where
   counts : (P : Process) (x : Message) (ρ : Bound) (g : Going) → Ready s label at left m end T (Process.repl P) x ρ g
-      → opens + news P ≤ 32760 → Shows s out now g → ShowsCourse s out₁ counted (go P Count x (at + 1) ρ (named opens g))
-  counts P x ρ g y l v =
-      w .walks .exact P x ρ (named opens g)
-      (copy-ready P Count (named opens g) y (unchanged {low = end} {high = end}) (fits-none Count opens P refl l) tt)
-      (renamed-shows opens v n)
+      → opens + news P ≤ 32760 → a ≡ countOf P ρ opens
+  counts P x ρ g y l =
+      c .exact P ρ (record { next = y .next; process = of-repl P (y .process); bound = y .bound; room = omega (arith, y .room); fits = l })
 
-  pub copy-over : counted .going ≡ false → Opens T opens s label at left m end out now counted out₁
+  pub copy-over : {out : List ℕ} {now r : Progress} → a ≡ OverLimit → Stopped now r → Opens T opens s label at left m end out now r out
   unfolding opened
-  copy-over off = record {
-    exact = λ P x ρ g y l v. no-further s out₁ counted (go P Count x (at + 1) ρ (named opens g)) _ (counts P x ρ g y l v) off;
+  copy-over is o = record {
+    exact = λ P x ρ g y l v.
+        let large = counted-over P ρ opens (counts P x ρ g y l) is in
+        rw (counted P x (at + 1) ρ (named opens g), large) (o .over);
   }
 
-  pub copy-done : {m₁ after : List ℕ} {high top : ℕ} {U : Task} {r : Progress}
-      → Returns (now .names) s label (at + 1) (left - 1) m₁ end U out₁ d r after → U ≡ opening T (counted .names)
-      → counted .going ≡ true → Within end high m m₁ → Within (d .state .end) top out out₁
-      → Opens T opens s label at left m end out now r after
+  pub copy-done : {m₁ out after : List ℕ} {high next : ℕ} {U : Task} {now d r : Progress} → a ≡ Names next
+      → Returns (now .names) s label (at + 1) (left - 1) m₁ end U out d r after → U ≡ opening T next → Renamed now opens d
+      → Within end high m m₁ → Opens T opens s label at left m end out now r after
   unfolding opened
-  copy-done {m₁} {after} {high} {top} {U} {r} j z on k o = record {
+  copy-done {m₁} {out} {after} {high} {next} {U} {now} {d} {r} is j z n k = record {
     exact = λ P x ρ g y l v.
-        goes-further s after r (go P Count x (at + 1) ρ (named opens g)) _ (counts P x ρ g y l v) on (λ h e u.
-        let names : counted .names ≡ h .names = u .names in
-        let task : U ≡ opening T (h .names) = rw (← names) z in
+        let (fine, later) = counted-names P ρ opens (counts P x ρ g y l) is in
         let before : now .names ≡ g .names = v .names in
-        let still : Shows s out₁ now g = still-shows v (rw (n .state) at o) in
-        let later = go-fits P Count x (at + 1) ρ (named opens g) h e in
-        subst (λ (b : ℕ). ShowsCourse s after r (returned b (go P (opening T (h .names)) x (at + 1) ρ (named opens g)))) before
-        ((rw task at j) .exact P x ρ (named opens g)
-        (copy-ready P (opening T (h .names)) (named opens g) y k
-        (fits-opening T (h .names) opens (g .names) P (omega arith) l (y .fits)) (meant-opening s T (h .names) (y .meant)))
-        (renamed-shows opens still n)));
+        let fits : next + laterNews P ≤ 32760 = omega (arith, names-fit P ρ opens) in
+        rw (counted P x (at + 1) ρ (named opens g), fine, ← later, ← before)
+        ((rw z at j) .exact P x ρ (named opens g)
+        (copy-ready P (opening T next) (named opens g) y k (fits-opening T next opens (g .names) P fits l (y .fits))
+        (meant-opening s T next (y .meant))) (renamed-shows opens v n));
   }
 
 pub ruleset copies = (copy-over, copy-done)

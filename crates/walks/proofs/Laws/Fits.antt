@@ -24,7 +24,7 @@ later-fewer (par P Q) = omega (arith, later-fewer P, later-fewer Q)
 later-fewer (repl P) = omega arith
 
 -- Other numbers, for a process with fewer.
-fewer : (P Q : Process) {ks : List ℕ} → laterNews Q ≤ laterNews P → Every (λ k. k + laterNews P ≤ 32760) ks
+pub fewer : (P Q : Process) {ks : List ℕ} → laterNews Q ≤ laterNews P → Every (λ k. k + laterNews P ≤ 32760) ks
     → Every (λ k. k + laterNews Q ≤ 32760) ks
 fewer P Q c f = every-map (λ k h. omega arith) f
 

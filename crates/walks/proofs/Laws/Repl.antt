@@ -28,7 +28,7 @@ use Rattle.repls.specs.declared.copies.Opening.{Opening}
 use Rattle.repls.specs.declared.copies.Opening.the-variants.{None, Copy, Again}
 use Rattle.repls.specs.declared.copies.Copies.{Copies}
 use Rattle.states.specs.declared.progress.Progress.{Progress}
-use Rattle.states.proofs.Laws.Process.{shaped, of-repl}
+use Rattle.states.proofs.Laws.Process.{in-model, shaped, of-repl}
 use Rattle.states.proofs.Laws.Progress.{renamed-shows}
 use Rattle.states.proofs.Laws.Written.{no-further, goes-further, stands-there}
 use Rattle.repls.proofs.Laws.Copies.{no-more, as-decided}
@@ -176,7 +176,7 @@ repls {c} {s} {label} {m} {out} {after = after} {at} {left} {end} {T} {now} {r =
         → ShowsCourse s after r (atRepl T at ρ P (copyOf at P x ρ) g)
     only P x ρ g y v =
         let names : now .names ≡ g .names = v .names in
-        let is : c ≡ copiesAt T at (g .names) P = rw names at (d .exact P (of-repl P (y .process) .stands)) in
+        let is : c ≡ copiesAt T at (g .names) P = rw names at (d .exact P (in-model (of-repl P (y .process)))) in
         rw (as-decided at ρ P (copyOf at P x ρ) g T, ← is)
         (w .exact P x ρ g y (rw is (openable s P T at (g .names) (y .fits .own) (y .fits .others) (y .meant)))
         (firstly (c .own) at ρ P g) (first-next at ρ P (c .own) g .at-end)

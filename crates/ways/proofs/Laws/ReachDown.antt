@@ -18,8 +18,8 @@ use Rattle.positions.specs.Sought.{Opened, copies}
 use Rattle.positions.proofs.Laws.Located.{Part, new-part, then-part, else-part, let-part, left-part, right-part, repl-part, part-inside, inside-bounds}
 use Rattle.positions.proofs.Laws.Located.{at-inside}
 use Rattle.positions.proofs.Laws.Walking.{Free, free-par, free-copy}
+use Rattle.walks.proofs.Laws.Course.{names-fit}
 use Rattle.ways.specs.Reach.{Site, Down, here, made, then, else, body, leftward, rightward, copied, offerSite, copySite, Allowed}
-use Rattle.ways.proofs.Laws.Reach.{names-left}
 
 -- Each stands in the process.
 pub down-inside : {P : Process} {at : ℕ} {ρ : Bound} {n k : ℕ} (w : Site) → Down P at ρ n k w → inside (w .place) at P ≡ true
@@ -124,7 +124,7 @@ module _ {ρ : Bound} {n k : ℕ} where
   allowed-par P Q f =
       let whole : Free (Process.par P Q) ρ n k = record { settling = f .settling; offering = f .offering } in
       let (p, q) = free-par P Q whole in
-      let fits = names-left P ρ n (p .settling) in (
+      let fits = names-fit P ρ n in (
         record { own = omega (arith, f .own); later = omega (arith, f .later); settling = p .settling; offering = p .offering },
         record { own = omega (arith, f .own); later = omega (arith, f .later); settling = q .settling; offering = q .offering },
       )
@@ -135,7 +135,7 @@ module _ {ρ : Bound} {n k : ℕ} where
       let p = free-copy P whole in
       record {
         own = f .later;
-        later = omega (arith, f .later, names-left P ρ k (p .settling));
+        later = omega (arith, f .later, names-fit P ρ k);
         settling = p .settling;
         offering = p .offering;
       }

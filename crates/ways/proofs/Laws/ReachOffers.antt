@@ -62,7 +62,7 @@ module _ {s label after : List ℕ} {r : Reached} {x : Message} where
   arrived-rest a g d f h v = (rw (d .place) at f) .exact a x g (d .prepared) h v
 
 -- A thread: what is prepared for it, and that it meets no limit.
-pub thread-prepared : {s label m : List ℕ} {end : ℕ} {x : Message} (t : Placed) → Standing s t → length s ≤ 4096 → Labelled label x
+pub thread-prepared : {s label m : List ℕ} {end : ℕ} {x : Message} (t : Placed) → Standing s t → length s ≤ 12288 → Labelled label x
     → BoundTo m 0 (boundOf (t .thread)) end → end + 512 * variables (processOf (t .thread)) + 4606 ≤ length m
     → Prepared s label (t .place) 64 m end (processOf (t .thread)) x (boundOf (t .thread))
 thread-prepared t st short l b room = record {

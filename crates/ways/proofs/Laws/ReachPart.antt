@@ -9,7 +9,7 @@ use Rattle.meaning.specs.Messages.Term.{Term, Message, leaf, private}
 use Rattle.meaning.specs.Messages.Equation.{Normal}
 use Rattle.meaning.specs.Messages.Normal.{normal}
 use Rattle.meaning.specs.Bytes.Process.{Process, new, if, let-in, par, repl}
-use Rattle.meaning.specs.Bytes.Encoding.{encodeTerm, encodeProcess}
+use Rattle.meaning.specs.Bytes.Encoding.{encodeTerm}
 use Rattle.meaning.specs.Bytes.Nesting.{variables}
 use Rattle.meaning.specs.Bytes.Standing.{Stands}
 use Rattle.meaning.specs.Steps.State.{Bound, _▸_, written, worked, names}
@@ -17,7 +17,8 @@ use Rattle.meaning.proofs.Messages.{normalForms}
 use Rattle.meaning.proofs.Bytes.Reading.Place.{_⨾_}
 use Rattle.nodes.specs.Buffer.{Within}
 use Rattle.nodes.proofs.Laws.Buffer.{unchanged}
-use Rattle.layouts.specs.Ends.{ProcessEnd, TermsEnd}
+use Rattle.indexes.specs.Index.{InModel, Ends}
+use Rattle.layouts.specs.Ends.{TermsEnd}
 use Rattle.terms.specs.Bound.{Binds}
 use Rattle.terms.specs.Work.{BindWorked}
 use Rattle.terms.specs.declared.work.Worked.{Worked}
@@ -29,8 +30,7 @@ use Rattle.states.specs.Course.{Going}
 use Rattle.states.specs.Shown.{Shows}
 use Rattle.threads.specs.Thread.{Held}
 use Rattle.states.specs.declared.progress.Progress.{Progress}
-use Rattle.states.proofs.Laws.Process.{Shape, shaped, of-new, of-if, of-let, of-par, of-repl}
-use Rattle.states.proofs.Laws.Progress.{still-shows}
+use Rattle.states.proofs.Laws.Process.{in-model, Shape, shaped, of-new, of-if, of-let, of-par, of-repl}
 use Rattle.threads.proofs.Laws.Offer.{bound-at, bound-still}
 use Rattle.positions.specs.Located.{inside}
 use Rattle.positions.proofs.Laws.Located.{inside-bounds, left-only}
@@ -38,12 +38,12 @@ use Rattle.positions.proofs.Laws.Marks.{holds-inside}
 use Rattle.ways.specs.Reach.{Site, Down, here, made, then, else, body, leftward, rightward, copied, Prepared, Allowed, Arrives, Reaches}
 use Rattle.ways.specs.Reach.{PassesIf, OtherPasses, CopyPasses, Takes}
 use Rattle.ways.specs.declared.reach.Reached.{Reached}
-use Rattle.ways.proofs.Laws.Reach.{longer}
+use Rattle.ways.proofs.Laws.Reach.{longer, to-settle}
 use Rattle.ways.proofs.Laws.ReachDown.{down-inside, allowed-new, allowed-then, allowed-else, allowed-let, allowed-par}
 use Rattle.ways.proofs.Laws.ReachDown.{allowed-copy}
 
 -- The mark is in a process in which it is known to be, and in no other.
-mark-held : {s : List ℕ} {at mark next : ℕ} {b : Bool} (w : Site) (P : Process) → Held s at mark b → Stands s at (encodeProcess P) next
+mark-held : {s : List ℕ} {at mark next : ℕ} {b : Bool} (w : Site) (P : Process) → Held s at mark b → InModel s at P next
     → mark ≡ w .place + 1 → inside (w .place) at P ≡ b
 mark-held {at} w P h p e = sym (h .exact P p ∙ rw e (holds-inside (w .place) at P))
 
@@ -134,12 +134,12 @@ module _ {s label m out after : List ℕ} {at left end mark n k first : ℕ} {no
       one M N P Q x ρ g w y a v (else z d) e o =
           let (i, j, p, q) = of-if M N P Q (y .process) in
           let there = first-there t M N P Q (y .process) in
-          let inner : inside (w .place) (thenAt at M N) P ≡ true = mark-held w P (rw there at h) (p .stands) e ∙ is in
+          let inner : inside (w .place) (thenAt at M N) P ≡ true = mark-held w P (rw there at h) (in-model p) e ∙ is in
           let (low, high) = inside-bounds (w .place) (thenAt at M N) P inner in
           let (low′, high′) = inside-bounds (w .place) (elseAt at M N P) Q (down-inside w d) in
           absurd (omega arith)
 
-  pub else-passed : {b : Bool} {second : ℕ} → Held s first mark b → b ≡ false → ProcessEnd s first second
+  pub else-passed : {b : Bool} {second : ℕ} → Held s first mark b → b ≡ false → Ends s first second
       → Reaches s label second (left - 1) m end mark n k out now r after → PassesIf 4 s label at left m end mark n k out now r after
   else-passed {b} {second} h is l u = passes-if 4 λ P (M, N, Q, R, f). rw f (one M N Q R)
     where
@@ -148,12 +148,12 @@ module _ {s label m out after : List ℕ} {at left end mark n k first : ℕ} {no
       one M N P Q x ρ g w y a v (then z d) e o =
           let (i, j, p, q) = of-if M N P Q (y .process) in
           let there = first-there t M N P Q (y .process) in
-          let outer : inside (w .place) (thenAt at M N) P ≡ false = mark-held w P (rw there at h) (p .stands) e ∙ is in
+          let outer : inside (w .place) (thenAt at M N) P ≡ false = mark-held w P (rw there at h) (in-model p) e ∙ is in
           absurd (true≢false (sym (down-inside w d) ∙ outer))
       one M N P Q x ρ g w y a v (else z d) e o =
           let (i, j, p, q) = of-if M N P Q (y .process) in
           let there = first-there t M N P Q (y .process) in
-          let behind : second ≡ elseAt at M N P = (rw there at l) .same P (p .stands) in
+          let behind : second ≡ elseAt at M N P = (rw there at l) .same P (in-model p) in
           (rw behind at u) .exact Q x ρ g w (prepared-part Q y (omega arith) q (unchanged {low = end} {high = end})) (allowed-else M N P Q z a) v d e
 
 pub ruleset ifs-passed = (then-passed, else-passed)
@@ -196,38 +196,38 @@ module _ {s label m out after : List ℕ} {at left end mark n k : ℕ} {now : Pr
           u .exact P x ρ g w (prepared-part P y (omega arith) p (unchanged {low = end} {high = end})) (allowed-par P Q a .0) v d e
       one P Q x ρ g w y a v (rightward d) e o =
           let (p, q) = of-par P Q (y .process) in
-          let inner : inside (w .place) (at + 1) P ≡ true = mark-held w P h (p .stands) e ∙ is in
+          let inner : inside (w .place) (at + 1) P ≡ true = mark-held w P h (in-model p) e ∙ is in
           absurd (true≢false (sym (down-inside w d) ∙ left-only (w .place) at P Q inner))
 
   pub not-left : {b : Bool} → Held s (at + 1) mark b → b ≡ false → OtherPasses s label at left m end mark n k out now r after
       → PassesIf 6 s label at left m end mark n k out now r after
   not-left h is f = f .exact (rw is at h)
 
-  pub right-passed : {m₁ out₁ : List ℕ} {later mid high top : ℕ} → Takes s label (at + 1) (left - 1) m end n out now later
-      → Within end high m m₁ → Within (now .state .end) top out out₁ → ProcessEnd s (at + 1) mid
-      → Reaches s label mid (left - 1) m₁ end mark later k out₁ now r after → OtherPasses s label at left m end mark n k out now r after
-  right-passed {m₁} {out₁} {later} {mid} names-of i j l u = record { exact = λ h. passes-if 6 λ P (Q, R, f). rw f (one h Q R) }
+  pub right-passed : {m₁ : List ℕ} {later mid high : ℕ} → Takes s (at + 1) (left - 1) m end n later → Within end high m m₁
+      → Ends s (at + 1) mid → Reaches s label mid (left - 1) m₁ end mark later k out now r after
+      → OtherPasses s label at left m end mark n k out now r after
+  right-passed {m₁} {later} {mid} names-of i l u = record { exact = λ h. passes-if 6 λ P (Q, R, f). rw f (one h Q R) }
     where
       one : Held s (at + 1) mark false → (P Q : Process) → Passing s label at left m end mark n k out now r after (par P Q)
       one h P Q x ρ g w y a v here e o = absurd (o (omega arith))
       one h P Q x ρ g w y a v (leftward d) e o =
           let (p, q) = of-par P Q (y .process) in
-          absurd (true≢false (sym (down-inside w d) ∙ mark-held w P h (p .stands) e))
+          absurd (true≢false (sym (down-inside w d) ∙ mark-held w P h (in-model p) e))
       one h P Q x ρ g w y a v (rightward d) e o =
           let (p, q) = of-par P Q (y .process) in
           let (f, f′) = allowed-par P Q a in
           let first = prepared-part P y (omega arith) p (unchanged {low = end} {high = end}) in
-          let next : later ≡ names P ρ n = names-of .exact P x ρ g first (f .own) v (f .settling) in
-          let behind : mid ≡ rightAt at P = l .same P (p .stands) in
-          (rw (behind, next) at u) .exact Q x ρ g w (prepared-part Q y (omega arith) q i) f′ (still-shows v j) d e
+          let next : later ≡ names P ρ n = names-of .exact P ρ (to-settle first (f .own)) (f .settling) in
+          let behind : mid ≡ rightAt at P = l .same P (in-model p) in
+          (rw (behind, next) at u) .exact Q x ρ g w (prepared-part Q y (omega arith) q i) f′ v d e
 
 pub ruleset sides-passed = (left-passed, not-left)
 
 -- Repl: the copy, in which copies open after its names.
-pub copy-passed : {s label m m₁ out out₁ after : List ℕ} {at left end mark k later high top : ℕ} {now : Progress} {r : Reached}
-    → Takes s label (at + 1) (left - 1) m end k out now later → Within end high m m₁ → Within (now .state .end) top out out₁
-    → Reaches s label (at + 1) (left - 1) m₁ end mark k later out₁ now r after → CopyPasses s label at left m end mark k out now r after
-copy-passed {s} {label} {m} {m₁} {out} {out₁} {after} {at} {left} {end} {mark} {k} {later} {now = now} {r = r} names-of i j u =
+pub copy-passed : {s label m m₁ out after : List ℕ} {at left end mark k later high : ℕ} {now : Progress} {r : Reached}
+    → Takes s (at + 1) (left - 1) m end k later → Within end high m m₁
+    → Reaches s label (at + 1) (left - 1) m₁ end mark k later out now r after → CopyPasses s label at left m end mark k out now r after
+copy-passed {s} {label} {m} {m₁} {out} {after} {at} {left} {end} {mark} {k} {later} {now = now} {r = r} names-of i u =
     record { exact = λ n. passes-if 7 λ P (Q, f). rw f (one n Q) }
   where
     one : (n : ℕ) (P : Process) → Passing s label at left m end mark n k out now r after (repl P)
@@ -236,5 +236,5 @@ copy-passed {s} {label} {m} {m₁} {out} {out₁} {after} {at} {left} {end} {mar
         let p = of-repl P (y .process) in
         let f = allowed-copy P a in
         let first = prepared-part P y (omega arith) p (unchanged {low = end} {high = end}) in
-        let next : later ≡ names P ρ k = names-of .exact P x ρ g first (f .own) v (f .settling) in
-        (rw next at u) .exact P x ρ g w (prepared-part P y (omega arith) p i) f (still-shows v j) d e
+        let next : later ≡ names P ρ k = names-of .exact P ρ (to-settle first (f .own)) (f .settling) in
+        (rw next at u) .exact P x ρ g w (prepared-part P y (omega arith) p i) f v d e

@@ -1,10 +1,16 @@
--- `layouts::layout::formula` meets its contract. Assumes nothing.
+-- `layouts::layout::formula` meets its contract: a row for each kind, the last one for what is left. Assumes nothing.
+use mathlib.Core.Path.{refl}
 use borrow.Author.Needs.{needs}
+use Rattle.layouts.specs.Layout.{formulaLayouts}
+use Rattle.layouts.proofs.Laws.Table.{row-of, last-row}
 use Rattle.layouts.proofs.layout.formula.Statement.{statement}
 use Rattle.layouts.proofs.layout.formula.Tie as tie
 
 pub formula-spec : {M : Type 1} → statement M
 formula-spec = tie.close (tie.spec
-    (λ c. search needs)
-    (λ c. search needs)
-    (λ c. search needs))
+    (λ c. row-of formulaLayouts 0 (c .match .keys1) refl)
+    (λ c. row-of formulaLayouts 1 (c .match .keys2) refl)
+    (λ c. row-of formulaLayouts 2 (c .match .keys3) refl)
+    (λ c. row-of formulaLayouts 3 (c .match .keys4) refl)
+    (λ c. row-of formulaLayouts 4 (c .match .keys5) refl)
+    (λ c. last-row formulaLayouts 5 (c .match .rest) (search needs) refl))

@@ -19,10 +19,10 @@ use Rattle.steps.proofs.between.+between+onward.{statement}
 use Rattle.steps.proofs.between.+between+onward.Tie.{close}
 
 abbrev μ-between : Measures 4 between-kinds.ps ℕ
-μ-between κs a = 2 * (5000 * (a .1 .1 .1 .1 .0 - a .1 .1 .0) + (5000 - a .1 .1 .1 .1 .1 .1 .0))
+μ-between κs a = 2 * (13000 * (a .1 .1 .1 .1 .0 - a .1 .1 .0) + (13000 - a .1 .1 .1 .1 .1 .1 .0))
 
 abbrev μ-onward : Measures 4 onward-kinds.ps ℕ
-μ-onward κs a = 2 * (5000 * (a .1 .1 .1 .0 - a .1 .1 .1 .1 .1 .0 .at) + (5000 - a .1 .1 .1 .1 .1 .0 .done .mark)) + 1
+μ-onward κs a = 2 * (13000 * (a .1 .1 .1 .0 - a .1 .1 .1 .1 .1 .0 .at) + (13000 - a .1 .1 .1 .1 .1 .0 .done .mark)) + 1
 
 abbrev between-at : ℕ → In 4 between-kinds.ps
 between-at t = and 4 between-kinds.ps (is 4 between-kinds.ps μ-between t) between.Pre

@@ -7,7 +7,7 @@ use borrow.Fn.Kinds.{In, PK}
 use borrow.Fn.PlainCycle.{Measures, is, falls, and}
 use Rattle.nodes.proofs.Laws.Buffer.{unchanged}
 use Rattle.states.proofs.Laws.Progress.{to-end, to-end-twice, to-end-again, to-end-after}
-use Rattle.walks.proofs.Laws.Walk.{let-ends}
+use Rattle.walks.proofs.Laws.HeadKinds.{let-ends}
 use Rattle.ways.proofs.Laws.ReachKinds.{begins, kinds}
 use Rattle.ways.proofs.Laws.ReachPart.{news-passed, ifs-passed, lets-passed, sides-passed, right-passed, copy-passed}
 use Rattle.ways.proofs.reach.below.Reads as below
@@ -35,7 +35,7 @@ use Rattle.ways.proofs.reach.side.Reads as side
 use Rattle.ways.proofs.reach.side.Kinds as side-kinds
 use Rattle.ways.proofs.reach.+below+bound+branch+copy+new+other+reach+side.Lts-side as side-lts
 use Rattle.nodes.proofs.node.wide.Reads as wide-reads
-use Rattle.layouts.proofs.ends.process.Reads as process-reads
+use Rattle.indexes.proofs.index.end.Reads as end-reads
 use Rattle.layouts.proofs.ends.terms.Reads as terms-reads
 use Rattle.threads.proofs.place.holds.Reads as holds-reads
 use Rattle.ways.proofs.reach.nowhere.Reads as nowhere-reads
@@ -112,8 +112,8 @@ branch-claims t = (
   holds-reads.Learnt,
   under reach-kinds.ps μ-reach reach.Pre t,
   reach.Post,
-  process-reads.Asked,
-  process-reads.Learnt,
+  end-reads.Asked,
+  end-reads.Learnt,
 )
 
 abbrev copy-claims : ℕ → copy-lts.Claims
@@ -138,8 +138,8 @@ abbrev other-claims : ℕ → other-lts.Claims
 other-claims t = (
   taken-reads.Asked,
   taken-reads.Learnt,
-  process-reads.Asked,
-  process-reads.Learnt,
+  end-reads.Asked,
+  end-reads.Learnt,
   under reach-kinds.ps μ-reach reach.Pre t,
   reach.Post,
 )
@@ -228,8 +228,8 @@ branch-reach-requires t c κs = search needs
 branch-returns : (t : ℕ) → branch-lts.Need-returns (branch-claims t) (at branch-kinds.ps μ-branch branch.Pre t) branch.Post
 branch-returns t c = (search needs, (search needs, (search needs, search (needs, ifs-passed))))
 
-branch-process-requires : (t : ℕ) → branch-lts.Need-process-requires (branch-claims t) (at branch-kinds.ps μ-branch branch.Pre t) branch.Post
-branch-process-requires t c κs = search needs
+branch-end-requires : (t : ℕ) → branch-lts.Need-end-requires (branch-claims t) (at branch-kinds.ps μ-branch branch.Pre t) branch.Post
+branch-end-requires t c κs = search needs
 
 branch-reach-requires-2 : (t : ℕ) → branch-lts.Need-reach-requires-2 (branch-claims t) (at branch-kinds.ps μ-branch branch.Pre t) branch.Post
 branch-reach-requires-2 t c κs = search needs
@@ -244,7 +244,7 @@ copy-reach-requires : (t : ℕ) → copy-lts.Need-reach-requires (copy-claims t)
 copy-reach-requires t c κs = search needs
 
 copy-returns : (t : ℕ) → copy-lts.Need-returns (copy-claims t) (at copy-kinds.ps μ-copy copy.Pre t) copy.Post
-copy-returns t c = (search needs, (search (needs, to-end-again), (search (needs, to-end-again), search (needs, copy-passed))))
+copy-returns t c = (search needs, (search (needs, to-end-again), (search needs, search (needs, copy-passed))))
 
 new-nowhere-requires : (t : ℕ) → new-lts.Need-nowhere-requires (new-claims t) (at new-kinds.ps μ-new new.Pre t) new.Post
 new-nowhere-requires t c κs = search needs
@@ -264,14 +264,14 @@ new-returns-2 t c = (search needs, (search (needs, to-end-after), (search needs,
 other-taken-requires : (t : ℕ) → other-lts.Need-taken-requires (other-claims t) (at other-kinds.ps μ-other other.Pre t) other.Post
 other-taken-requires t c κs = search needs
 
-other-process-requires : (t : ℕ) → other-lts.Need-process-requires (other-claims t) (at other-kinds.ps μ-other other.Pre t) other.Post
-other-process-requires t c κs = search needs
+other-end-requires : (t : ℕ) → other-lts.Need-end-requires (other-claims t) (at other-kinds.ps μ-other other.Pre t) other.Post
+other-end-requires t c κs = search needs
 
 other-reach-requires : (t : ℕ) → other-lts.Need-reach-requires (other-claims t) (at other-kinds.ps μ-other other.Pre t) other.Post
 other-reach-requires t c κs = search needs
 
 other-returns : (t : ℕ) → other-lts.Need-returns (other-claims t) (at other-kinds.ps μ-other other.Pre t) other.Post
-other-returns t c = (search needs, (search (needs, to-end-again), (search (needs, to-end-again), search (needs, right-passed))))
+other-returns t c = (search needs, (search (needs, to-end-again), (search needs, search (needs, right-passed))))
 
 reach-nowhere-requires : (t : ℕ) → reach-lts.Need-nowhere-requires (reach-claims t) (at reach-kinds.ps μ-reach reach.Pre t) reach.Post
 reach-nowhere-requires t c κs = search needs
@@ -371,7 +371,7 @@ pub +below+bound+branch+copy+new+other+reach+side-spec : {M : Type 1} → statem
     (λ c. search needs)
     (λ c. search needs)
     (branch-returns t)
-    (branch-process-requires t)
+    (branch-end-requires t)
     (λ c. search needs)
     (branch-reach-requires-2 t)
     (λ c. search needs)
@@ -409,7 +409,7 @@ pub +below+bound+branch+copy+new+other+reach+side-spec : {M : Type 1} → statem
     (λ c. search needs)
     (other-taken-requires t)
     (λ c. search needs)
-    (other-process-requires t)
+    (other-end-requires t)
     (λ c. search needs)
     (other-reach-requires t)
     (λ c. search needs)

@@ -1,0 +1,3 @@
+-- The laws by which the functions meet their contracts. Assumes nothing.
+pub mod Kept
+pub mod Index

@@ -1,0 +1,75 @@
+-- The index of a model: where each of its processes ends ("Bytes"). Assumes nothing.
+use mathlib.Core.Path.{_≡_}
+use mathlib.Core.List.{List, [], _∷_}
+use Prim.Native.Nat.{ℕ, _+_, _*_, _≤_}
+use lib.ListN.{length}
+use Rattle.meaning.specs.Bytes.Process.{output, input, Process, nil, new, act, if, let-in, par, repl}
+use Rattle.meaning.specs.Bytes.Encoding.{encodeTerm, encodeProcess}
+use Rattle.meaning.specs.Bytes.Nesting.{processDepth}
+use Rattle.meaning.specs.Bytes.Standing.{Stands}
+use Rattle.meaning.specs.Bytes.WellFormed.{IsModel}
+use Rattle.nodes.specs.Buffer.{Within}
+use Rattle.nodes.specs.Encoding.{encodeNode}
+use Rattle.layouts.specs.Ends.{row}
+
+-- Where the entry of a position stands.
+abbrev pub entryAt : ℕ → ℕ
+entryAt at = 4096 + 2 * at
+
+-- The entry of a position says where a process ends.
+abbrev pub EntryOf : List ℕ → (at end : ℕ) → Type 0
+EntryOf s at end = Stands s (entryAt at) (encodeNode end) (entryAt at + 2)
+
+abbrev pub Noted : List ℕ → (at : ℕ) → Process → Type 0
+Noted s at P = EntryOf s at (at + length (encodeProcess P))
+
+-- So it does for every process that is in P, which stands at the position.
+abbrev pub Indexed : List ℕ → (at : ℕ) → Process → Type 0
+Indexed s at nil = Noted s at nil
+Indexed s at (new P) = Noted s at (new P) × Indexed s (at + 1) P
+Indexed s at (act (output C M) P) =
+    Noted s at (act (output C M) P) × Indexed s (at + 1 + length (encodeTerm C) + length (encodeTerm M)) P
+Indexed s at (act (input C) P) = Noted s at (act (input C) P) × Indexed s (at + 1 + length (encodeTerm C)) P
+Indexed s at (if M N P Q) =
+    Noted s at (if M N P Q) × Indexed s (at + 1 + length (encodeTerm M) + length (encodeTerm N)) P
+    × Indexed s (at + 1 + length (encodeTerm M) + length (encodeTerm N) + length (encodeProcess P)) Q
+Indexed s at (let-in M P) = Noted s at (let-in M P) × Indexed s (at + 1 + length (encodeTerm M)) P
+Indexed s at (par P Q) = Noted s at (par P Q) × Indexed s (at + 1) P × Indexed s (at + 1 + length (encodeProcess P)) Q
+Indexed s at (repl P) = Noted s at (repl P) × Indexed s (at + 1) P
+
+-- A process stands in s from at to end, among the bytes of the model, and is in the index.
+pub record InModel (s : List ℕ) (at : ℕ) (P : Process) (end : ℕ) : Type 0 where
+  pub stands : Stands s at (encodeProcess P) end
+  pub indexed : Indexed s at P
+  pub inside : end ≤ 4096
+
+-- The answer is where such a process ends.
+pub record Ends (s : List ℕ) (at r : ℕ) : Type 0 where
+  pub same : (P : Process) {end : ℕ} → InModel s at P end → r ≡ end
+
+-- The entry of a position is written, and nothing else.
+pub record Notes (s : List ℕ) (at end : ℕ) (after : List ℕ) : Type 0 where
+  pub own : end ≤ 4096 → Within (entryAt at) (entryAt at + 2) s after
+  pub noted : at + 1 ≤ end → end ≤ 4096 → EntryOf after at end
+
+-- Whatever process stands there, its end is the answer, it is in the index after the call, and entries of other positions are left.
+pub record Indexes (s : List ℕ) (at left r : ℕ) (after : List ℕ) : Type 0 where
+  pub exact : (P : Process) {end : ℕ} → Stands s at (encodeProcess P) end → processDepth P ≤ left → end ≤ 4096
+      → (r ≡ end) × Indexed after at P × Within (entryAt at) (entryAt end) s after
+
+-- The same of processes in a row.
+abbrev pub IndexedRow : List ℕ → (at : ℕ) → List Process → Type 0
+IndexedRow s at [] = Unit {0}
+IndexedRow s at (P ∷ Ps) = Indexed s at P × IndexedRow s (at + length (encodeProcess P)) Ps
+
+abbrev pub DeepRow : (left : ℕ) → List Process → Type 0
+DeepRow left [] = Unit {0}
+DeepRow left (P ∷ Ps) = (processDepth P ≤ left) × DeepRow left Ps
+
+pub record IndexesRow (s : List ℕ) (at left count r : ℕ) (after : List ℕ) : Type 0 where
+  pub exact : (Ps : List Process) {end : ℕ} → length Ps ≡ count → count ≤ 2 → Stands s at (row encodeProcess Ps) end → DeepRow left Ps
+      → end ≤ 4096 → (r ≡ end) × IndexedRow after at Ps × Within (entryAt at) (entryAt end) s after
+
+-- Whatever model the slice is, it stands at the front of the other one, and is in its index.
+pub record Builds (model s : List ℕ) : Type 0 where
+  pub exact : (P : Process) → IsModel model P → InModel s 0 P (length model)

@@ -1,0 +1,23 @@
+-- `offers::pass::differs` meets its contract. Assumes nothing.
+use borrow.Author.Needs.{needs}
+use Rattle.offers.proofs.Laws.Pass.{differences}
+use Rattle.offers.proofs.pass.differs.Statement.{statement}
+use Rattle.offers.proofs.pass.differs.Tie as tie
+
+pub differs-spec : {M : Type 1} → statement M
+differs-spec = tie.close (tie.spec
+    (λ c. search needs)
+    (λ c. search (needs, differences))
+    (λ c. search needs)
+    (λ c κs. search needs)
+    (λ c. search (needs, differences))
+    (λ c. search needs)
+    (λ c. search needs)
+    (λ c κs. search needs)
+    (λ c. search (needs, differences))
+    (λ c. search (needs, differences))
+    (λ c κs. search needs)
+    (λ c. search needs)
+    (λ c. search needs)
+    (λ c. search (needs, differences))
+    (λ c. search (needs, differences)))

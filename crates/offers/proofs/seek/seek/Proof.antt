@@ -1,0 +1,36 @@
+-- `offers::seek::seek` meets its contract. The loop has looked at the records before the position, in vain. Assumes nothing.
+use Prim.Native.Nat.{_-_, _≤_}
+use borrow.Author.Needs.{needs}
+use lib.ListN.{length}
+use Rattle.nodes.specs.Buffer.{Within}
+use Rattle.nodes.proofs.Laws.Buffer.{unchanged}
+use Rattle.states.proofs.Laws.Progress.{to-ends}
+use Rattle.offers.proofs.Laws.Seek.{Comes, seekings}
+use Rattle.offers.proofs.seek.seek.Statement.{statement}
+use Rattle.offers.proofs.seek.seek.Tie as tie
+
+abbrev Inv-loop : tie.InvT-loop
+Inv-loop s label at to m₀ skip names out₀ last i₀ here₀ m out i here =
+    Within 0 (length m₀) m₀ m × Within to (length out₀) out₀ out × Comes s label to skip names i₀ here₀ m₀ out₀ i here m out
+    × (length s ≤ 12288) × (to ≤ length out) × (4 ≤ to)
+
+abbrev μ-loop : tie.MeasureT-loop
+μ-loop s label at to m₀ skip names out₀ last i₀ here₀ m out i here = to - i
+
+pub seek-spec : {M : Type 1} → statement M
+seek-spec = tie.close (tie.spec Inv-loop μ-loop
+    (λ c κs. search needs)
+    (λ c. (search (needs, unchanged), (search (needs, unchanged), search (needs, seekings))))
+    (λ c κs. search needs)
+    (λ c. (search (needs, unchanged), search (needs, unchanged), search (needs, seekings), search needs, search needs, search needs))
+    (λ c κs. search needs)
+    (λ c. search needs)
+    (λ c. search needs)
+    (λ c. (search (needs, to-ends), (search (needs, to-ends), search (needs, seekings))))
+    (λ c κs. search needs)
+    (λ c. search needs)
+    (λ c. (search (needs, to-ends), search (needs, to-ends), search (needs, seekings), search needs, search needs, search needs))
+    (λ c κs. search needs)
+    (λ c. search needs)
+    (λ c. search needs)
+    (λ c. (search (needs, to-ends), (search (needs, to-ends), search (needs, seekings)))))

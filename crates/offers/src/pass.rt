@@ -1,0 +1,144 @@
+// Records of threads that surely have no offer of a quest, which are passed by without a walk ("Steps").
+use nodes::node;
+use threads::task::Quest;
+use threads::thread;
+ghost use mathlib.Core.Path.{_≡_};
+ghost use Prim.Native.Nat.{_+_, _≤_, _<_};
+ghost use lib.ListN.{length};
+ghost use Rattle.offers.specs.Seek.{afresh};
+ghost use Rattle.offers.specs.Pass.{Differs, Idle, Skips, Passes, Behind};
+
+// The kind of a repl.
+pub(crate) const REPL: usize = 7;
+
+// The kind of a public name, and the numbers of which one byte is enough.
+const NAME: usize = 0;
+
+const SHORT: usize = 128;
+
+// Where the first record stands that is not passed by, and what is sought from there on.
+pub(crate) struct Passed {
+    pub at: usize,
+    pub quest: Quest,
+}
+
+// The same quest from the first offer of a thread on.
+fn afresh(quest: Quest) -> Quest
+    ensures { λ r. ⌜ r ≡ afresh quest ⌝ }
+{
+    Quest {
+        output: quest.output,
+        any: quest.any,
+        from: 0,
+        but: quest.but,
+    }
+}
+
+// Whether the term at a position is a public name, and the label another message.
+fn differs(s: &[u8], label: &[u8], at: usize) -> bool
+    requires { ⌜ at ≤ 12288 ⌝ }
+    ensures { λ r. ⌜ Differs (now (s .entry)) (now (label .entry)) at r ⌝ }
+{
+    if s.len() <= at + 1 {
+        return false;
+    }
+    if node::wide(s[at]) != NAME {
+        return false;
+    }
+    let number = node::wide(s[at + 1]);
+    if SHORT <= number {
+        return false;
+    }
+    if label.len() != 2 {
+        return true;
+    }
+    if node::number(label, 0) == 2 * number + 16 {
+        return false;
+    }
+    true
+}
+
+// Whether the thread whose process stands at a position surely has no offer that is sought: an output or an input that is not meant, or has
+// another channel.
+fn idle(s: &[u8], label: &[u8], place: usize, quest: Quest) -> bool
+    requires { ⌜ length (now s) ≤ 12288 ⌝ }
+    ensures { λ r. ⌜ Idle (now (s .entry)) (now (label .entry)) place quest r ⌝ }
+{
+    if s.len() <= place {
+        return false;
+    }
+    let kind = node::wide(s[place]);
+    if kind == REPL {
+        return false;
+    }
+    if thread::meant(quest, place, kind) {
+        if quest.any {
+            return false;
+        }
+        return differs(s, label, place + 1);
+    }
+    true
+}
+
+// Whether the record at a position is the one at the position skip, or that of such a thread.
+fn skipped(s: &[u8], label: &[u8], at: usize, quest: Quest, skip: usize, out: &[u8]) -> bool
+    requires { ⌜ (length (now s) ≤ 12288) × (at + 4 ≤ length (now out)) ⌝ }
+    ensures { λ r. ⌜ Skips (now (s .entry)) (now (label .entry)) at quest skip (now (out .entry)) r ⌝ }
+{
+    if at == skip {
+        return true;
+    }
+    idle(s, label, node::number(out, at), quest)
+}
+
+// The first record from a position on whose thread may have an offer of the quest, and is not the one at the position skip.
+pub(crate) fn pass(
+    s: &[u8],
+    label: &[u8],
+    at: usize,
+    to: usize,
+    quest: Quest,
+    skip: usize,
+    out: &[u8],
+) -> Passed
+    requires { ⌜ (length (now s) ≤ 12288) × (to ≤ length (now out)) ⌝ }
+    ensures { λ r. ⌜ at ≤ r .at ⌝ }
+    ensures { λ r. ⌜ Passes (now (s .entry)) (now (label .entry)) at to quest skip (now (out .entry)) r ⌝ }
+{
+    if to < 4 {
+        return Passed {
+            at: at,
+            quest: quest,
+        };
+    }
+    let last = to - 4;
+    let later = afresh(quest);
+    let mut i = at;
+    let mut here = quest;
+    while i <= last {
+        if !skipped(s, label, i, here, skip, out) {
+            return Passed { at: i, quest: here };
+        }
+        i = i + 4 + node::number(out, i + 2);
+        here = later;
+    }
+    Passed { at: i, quest: here }
+}
+
+// The first such record behind the one at a position.
+pub(crate) fn behind(
+    s: &[u8],
+    label: &[u8],
+    at: usize,
+    to: usize,
+    quest: Quest,
+    skip: usize,
+    out: &[u8],
+) -> Passed
+    requires { ⌜ (length (now s) ≤ 12288) × (at + 4 ≤ to) × (to ≤ length (now out)) ⌝ }
+    ensures { λ r. ⌜ at < r .at ⌝ }
+    ensures { λ r. ⌜ Behind (now (s .entry)) (now (label .entry)) at to quest skip (now (out .entry)) r ⌝ }
+{
+    let next = at + 4 + node::number(out, at + 2);
+    pass(s, label, next, to, afresh(quest), skip, out)
+}

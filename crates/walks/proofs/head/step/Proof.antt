@@ -1,0 +1,19 @@
+-- `walks::head::step` meets its contract, by the kind of the node. Assumes nothing.
+use borrow.Author.Needs.{needs}
+use Rattle.walks.proofs.Laws.Head.{steps-down}
+use Rattle.walks.proofs.head.step.Statement.{statement}
+use Rattle.walks.proofs.head.step.Tie as tie
+
+pub step-spec : {M : Type 1} → statement M
+step-spec = tie.close (tie.spec
+    (λ c. search needs)
+    (λ c κs. search needs)
+    (λ c κs. search needs)
+    (λ c. search needs)
+    (λ c. (search needs, (search needs, (search needs, search (needs, steps-down)))))
+    (λ c κs. search needs)
+    (λ c. search needs)
+    (λ c. (search needs, (search needs, (search needs, search (needs, steps-down)))))
+    (λ c κs. search needs)
+    (λ c. search needs)
+    (λ c. (search needs, (search needs, (search needs, search (needs, steps-down))))))
