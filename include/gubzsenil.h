@@ -47,8 +47,8 @@ typedef struct gubzsenil_answer {
 } gubzsenil_answer;
 
 /*
- * Judges the finding that the three slices are, within a budget of visits. It returns for every input: the time is at most in
- * proportion to the budget.
+ * Judges the finding that the three slices are, within a budget of visits. It returns for every input, after at most as many
+ * visits as the budget allows.
  *
  * Buffers. All four belong to the caller, and only for the time of the call: no pointer is kept, and nothing is allocated.
  * The slices are read and never written; they may overlap each other. The work bytes may not overlap any of them, and may hold

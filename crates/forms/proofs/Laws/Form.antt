@@ -1,7 +1,7 @@
 -- The start state as it is formed, or over a limit ("Steps"; "Judging and its count"). Assumes nothing.
 use mathlib.Core.Path.{_≡_, refl, sym, ap, _∙_}
 use mathlib.Core.Bool.{Bool, true, false, _||_, true≢false}
-use mathlib.Core.List.{List, [], _∷_, _++_}
+use mathlib.Core.List.{List, [], _∷_}
 use Rattle.meaning.specs.Messages.Term.{leaf, public}
 use Rattle.meaning.specs.Messages.Normal.{normal}
 use Rattle.meaning.proofs.Messages.{normalForms}
@@ -10,9 +10,8 @@ use Prim.Native.Nat.{ℕ, _+_, _≤_, _<_}
 use native.Mathlib.Omega.{arith}
 use borrow.Author.Tests.{ltb-true, ltb-false}
 use lib.Dec.{ltb}
-use lib.ListN.{length, length-append}
-use Rattle.meaning.specs.Bytes.Process.{output, input, Process, nil, new, act, if, let-in, par, repl}
-use Rattle.meaning.specs.Bytes.Encoding.{encodeTerm, encodeProcess}
+use lib.ListN.{length}
+use Rattle.meaning.specs.Bytes.Process.{Process}
 use Rattle.meaning.specs.Bytes.WellFormed.{IsModel}
 use Rattle.meaning.specs.Places.{none}
 use Rattle.meaning.specs.Steps.State.{names, settle, start}
@@ -25,7 +24,6 @@ use Rattle.terms.specs.Bound.{encodeBound}
 use Rattle.indexes.specs.Index.{Builds}
 use Rattle.states.specs.Record.{encodeRecords}
 use Rattle.states.specs.Room.{freshState}
-use Rattle.walks.specs.News.{news}
 use Rattle.states.specs.Course.{Going, going, unless}
 use Rattle.states.specs.Shown.{Shows, ShowsCourse}
 use Rattle.walks.specs.Walk.{Ready, Walks}
@@ -38,6 +36,7 @@ use Rattle.forms.specs.declared.form.Formed.the-variants.{At, OverLimit}
 use Rattle.threads.specs.declared.task.Task.the-variants.{Settle}
 use Rattle.states.specs.declared.progress.Progress.{Progress}
 use Rattle.walks.proofs.Laws.Settling.{settled-threads, settles}
+use Rattle.forms.proofs.Laws.Visit.{news-short}
 
 -- A walk that is done: within the limits, with too many names, or over another limit.
 module _ {now : Progress} where
@@ -55,26 +54,6 @@ module _ {now : Progress} where
   finish-over off = record { over = λ _. refl; many = λ _. refl; state = λ on _. absurd (true≢false (sym on ∙ off)) }
 
 pub ruleset finishes = (finish-at, finish-many, finish-over)
-
--- Every `new` has a byte of its own.
-news-few : (P : Process) → news P ≤ length (encodeProcess P)
-unfolding encodeProcess
-news-few nil = omega arith
-news-few (new P) = omega (arith, news-few P)
-news-few (act (output C M) P) =
-    omega (arith, news-few P, length-append (encodeTerm C ++ encodeTerm M) (encodeProcess P))
-news-few (act (input C) P) = omega (arith, news-few P, length-append (encodeTerm C) (encodeProcess P))
-news-few (if M N P Q) =
-    omega (
-      arith,
-      news-few P,
-      news-few Q,
-      length-append (encodeTerm M ++ encodeTerm N ++ encodeProcess P) (encodeProcess Q),
-      length-append (encodeTerm M ++ encodeTerm N) (encodeProcess P),
-    )
-news-few (let-in M P) = omega (arith, news-few P, length-append (encodeTerm M) (encodeProcess P))
-news-few (par P Q) = omega (arith, news-few P, news-few Q, length-append (encodeProcess P) (encodeProcess Q))
-news-few (repl P) = omega (arith, news-few P)
 
 -- A model that was put into a slice with its index stands there.
 pub model-in : {model s : List ℕ} (P : Process) → Builds model s → IsModel model P → ModelIn s P
@@ -149,7 +128,7 @@ module _ {s label m out after : List ℕ} {begin : ℕ} {f : State} {w : Progres
     normal = normalForms (leaf (public 0)) .0;
     bound = record { stands = record { bytes = refl; size = omega arith }; few = omega arith; normal = none };
     room = omega (arith, w .process .few);
-    fits = record { own = omega (arith, news-few P, w .process .stands .size, w .process .inside); others = none };
+    fits = record { own = omega (arith, news-short P, w .process .stands .size, w .process .inside); others = none };
     meant = tt;
   }
 
