@@ -1,6 +1,7 @@
 -- The step after one, and the state that it leads to, formed behind the one that it leaves ("Steps"; "Judging and its count"). Assumes
 -- nothing.
 use mathlib.Core.Path.{_≡_}
+use mathlib.Core.Bool.{Bool}
 use mathlib.Core.List.{List, [], _∷_, _++_}
 use Prim.Native.Nat.{ℕ, _≤_}
 use lib.ListN.{length}
@@ -10,18 +11,19 @@ use Rattle.meaning.specs.Steps.State.{State}
 use Rattle.meaning.specs.Steps.Invariant.{Stored}
 use Rattle.states.specs.Record.{Placed}
 use Rattle.states.specs.declared.state.State as code
-use Rattle.forms.specs.Form.{Forms}
 use Rattle.forms.specs.Visit.{Labelled}
 use Rattle.forms.specs.declared.form.Formed.{Formed}
 use Rattle.moves.specs.Moves.{Move}
 use Rattle.moves.specs.Outcome.{outcome, arrivalOf}
 use Rattle.moves.specs.Held.{Held}
 use Rattle.moves.specs.Step.{stepOf, runOf}
-use Rattle.moves.specs.Behind.{movesOf, Behind}
+use Rattle.moves.specs.Behind.{movesOf}
 use Rattle.moves.specs.Moving.{Leading}
 use Rattle.moves.specs.declared.step.Step as step
 use Rattle.moves.specs.declared.step.Label.{Label}
 use Rattle.moves.specs.declared.step.Label.the-variants.{Input}
+use Rattle.steps.specs.Kept.{Kept, Resuming}
+use Rattle.successors.specs.Lead.{FormsFor}
 use Rattle.arrivals.specs.declared.arrive.Arrived.{Arrived}
 use Rattle.arrivals.specs.declared.arrive.Arrived.the-variants.{By, None}
 
@@ -43,21 +45,23 @@ pub record Leaving (s out : List ℕ) (st : code.State) (S : State) (h : Held s 
   pub sent : Stands message 0 (runOf w) (length (runOf w))
 
 -- Whatever state stands there, and whatever step of it this is: the state that it leads to.
-pub record Leaves (s taken message : List ℕ) (st : code.State) (v : step.Step) (m out : List ℕ) (r : Formed) (after : List ℕ) : Type 0 where
+pub record Leaves (quiet : Bool) (s taken message : List ℕ) (st : code.State) (v : step.Step) (m out : List ℕ) (r : Formed) (after : List ℕ) : Type 0 where
   pub exact : (S : State) (h : Held s out st S) (y : Message) (w : Move) → Leaving s out st S h v taken message y w → Leading s st S m out
-      → Forms s (st .end) (arrivalOf S (outcome (h .at .placed) (S .next) y w)) r after
+      → FormsFor quiet s (st .end) (arrivalOf S (outcome (h .at .placed) (S .next) y w)) r after
 
 -- The same for a step that is no input.
-pub record Sends (s message : List ℕ) (st : code.State) (v : step.Step) (m out : List ℕ) (r : Formed) (after : List ℕ) : Type 0 where
-  pub exact : (v .label ≡ Input → ⊥) → (taken : List ℕ) → Leaves s taken message st v m out r after
+pub record Sends (quiet : Bool) (s message : List ℕ) (st : code.State) (v : step.Step) (m out : List ℕ) (r : Formed) (after : List ℕ) : Type 0 where
+  pub exact : (v .label ≡ Input → ⊥) → (taken : List ℕ) → Leaves quiet s taken message st v m out r after
 
--- The answer is the first of these moves, and the state that it leads to; or none.
-abbrev pub ArrivedAt : (s : List ℕ) (st : code.State) (S : State) (ps : List Placed) (y : Message) → Arrived → (after : List ℕ) → List Move → Type 0
-ArrivedAt s st S ps y r after [] = r ≡ None
-ArrivedAt s st S ps y r after (w ∷ others) =
-    (f : Formed) × (r ≡ By (stepOf (st .start) w) f) × Forms s (st .end) (arrivalOf S (outcome ps (S .next) y w)) f after
+-- The answer is the first of these moves, with what it sends and on what, and the state that it leads to; or none.
+abbrev pub ArrivedAt : (quiet : Bool) (s : List ℕ) (st : code.State) (S : State) (ps : List Placed) (y : Message) → Arrived → (after on said : List ℕ) → List Move → Type 0
+ArrivedAt quiet s st S ps y r after on said [] = r ≡ None
+ArrivedAt quiet s st S ps y r after on said (w ∷ others) =
+    (f : Formed) × (r ≡ By (stepOf (st .start) w) f) × FormsFor quiet s (st .end) (arrivalOf S (outcome ps (S .next) y w)) f after × Kept on said w
 
-pub record Arrives (s channel taken : List ℕ) (st : code.State) (from : step.Step) (m out : List ℕ) (r : Arrived) (after : List ℕ) : Type 0 where
+pub record Arrives (quiet : Bool) (s channel taken : List ℕ) (st : code.State) (from : step.Step) (m out held message : List ℕ) (r : Arrived)
+    (after on said : List ℕ) : Type 0 where
   pub exact : (S : State) (x y : Message) (h : Held s out st S) → Labelled channel x → Taken S taken (from .label) y → Leading s st S m out
-      → {others : List Move} → Behind (from .label) (st .start) (movesOf (from .label) x (S .next) (h .at .placed)) from others
-      → ArrivedAt s st S (h .at .placed) y r after others
+      → 510 ≤ length held → 510 ≤ length message → {others : List Move}
+      → Resuming (from .label) (st .start) (movesOf (from .label) x (S .next) (h .at .placed)) held message from others
+      → ArrivedAt quiet s st S (h .at .placed) y r after on said others

@@ -6,6 +6,7 @@ use moves::step::Step;
 use states::state::State;
 use steps::next;
 use successors::lead;
+ghost use mathlib.Core.Path.{_≡_};
 ghost use Prim.Native.Nat.{_≤_};
 ghost use lib.ListN.{length};
 ghost use Rattle.nodes.specs.Buffer.{Within};
@@ -17,21 +18,26 @@ pub enum Arrived {
     None,
 }
 
-// The most bytes of a message.
-const MESSAGE: usize = 510;
-
 // Where a step leads that sends the message at the front of a slice. No step sends one that is longer than the slice.
-fn sent(s: &[u8], state: State, step: Step, message: &[u8], m: &mut [u8], out: &mut [u8]) -> Formed
-    requires { ⌜ (length (now s) ≤ 12288) × (state .end ≤ length (now out)) ⌝ }
+fn sent(
+    s: &[u8],
+    state: State,
+    step: Step,
+    message: &[u8],
+    quiet: bool,
+    m: &mut [u8],
+    out: &mut [u8],
+) -> Formed
+    requires { ⌜ (length (now s) ≤ 36864) × (state .end ≤ length (now out)) ⌝ }
     ensures { λ _. ⌜ Within 0 (length (now (m .entry))) (now (m .entry)) (now (m .exit)) ⌝ }
     ensures { λ _. ⌜ Within (state .end) (length (now (out .entry))) (now (out .entry)) (now (out .exit)) ⌝ }
-    ensures { λ r. ⌜ Sends (now (s .entry)) (now (message .entry)) state step (now (m .entry)) (now (out .entry)) r (now (out .exit)) ⌝ }
+    ensures { λ r. ⌜ Sends quiet (now (s .entry)) (now (message .entry)) state step (now (m .entry)) (now (out .entry)) r (now (out .exit)) ⌝ }
 {
     let size = step.size;
     if message.len() < size {
         return Formed::OverLimit;
     }
-    lead::lead(s, state, step, &message[0..size], m, out)
+    lead::lead(s, state, step, &message[0..size], quiet, m, out)
 }
 
 // Where a step leads, with the message that is sent at the front of one slice, and the message of an input's label in another.
@@ -41,42 +47,49 @@ fn led(
     step: Step,
     taken: &[u8],
     message: &[u8],
+    quiet: bool,
     m: &mut [u8],
     out: &mut [u8],
 ) -> Formed
-    requires { ⌜ (length (now s) ≤ 12288) × (state .end ≤ length (now out)) ⌝ }
+    requires { ⌜ (length (now s) ≤ 36864) × (state .end ≤ length (now out)) ⌝ }
     ensures { λ _. ⌜ Within 0 (length (now (m .entry))) (now (m .entry)) (now (m .exit)) ⌝ }
     ensures { λ _. ⌜ Within (state .end) (length (now (out .entry))) (now (out .entry)) (now (out .exit)) ⌝ }
-    ensures { λ r. ⌜ Leaves (now (s .entry)) (now (taken .entry)) (now (message .entry)) state step (now (m .entry)) (now (out .entry)) r (now (out .exit)) ⌝ }
+    ensures { λ r. ⌜ Leaves quiet (now (s .entry)) (now (taken .entry)) (now (message .entry)) state step (now (m .entry)) (now (out .entry)) r (now (out .exit)) ⌝ }
 {
     let label = step.label;
     match label {
-        Label::Output => sent(s, state, step, message, m, out),
-        Label::Input => lead::lead(s, state, step, taken, m, out),
-        Label::Silent => sent(s, state, step, message, m, out),
+        Label::Output => sent(s, state, step, message, quiet, m, out),
+        Label::Input => lead::lead(s, state, step, taken, quiet, m, out),
+        Label::Silent => sent(s, state, step, message, quiet, m, out),
     }
 }
 
-// The step after one of a state, whose label's channel is given and, for an input, its message; and the state that it leads to.
+// The step after one of a state, whose label's channel is given and, for an input, its message; and the state that it leads to, whose threads
+// may be left out where quiet is true. What the step sends is written to the front of a slice, and the channel of a silent step of two threads
+// to the front of another, where those of the step before stand.
 pub fn next(
     s: &[u8],
     state: State,
     step: Step,
     channel: &[u8],
     taken: &[u8],
+    quiet: bool,
     m: &mut [u8],
     out: &mut [u8],
+    held: &mut [u8],
+    message: &mut [u8],
 ) -> Arrived
-    requires { ⌜ (length (now s) ≤ 12288) × (state .end ≤ length (now out)) ⌝ }
+    requires { ⌜ (length (now s) ≤ 36864) × (state .end ≤ length (now out)) ⌝ }
     ensures { λ _. ⌜ Within 0 (length (now (m .entry))) (now (m .entry)) (now (m .exit)) ⌝ }
     ensures { λ _. ⌜ Within (state .end) (length (now (out .entry))) (now (out .entry)) (now (out .exit)) ⌝ }
-    ensures { λ r. ⌜ Arrives (now (s .entry)) (now (channel .entry)) (now (taken .entry)) state step (now (m .entry)) (now (out .entry)) r (now (out .exit)) ⌝ }
+    ensures { λ _. ⌜ length (now (held .exit)) ≡ length (now (held .entry)) ⌝ }
+    ensures { λ _. ⌜ length (now (message .exit)) ≡ length (now (message .entry)) ⌝ }
+    ensures { λ r. ⌜ Arrives quiet (now (s .entry)) (now (channel .entry)) (now (taken .entry)) state step (now (m .entry)) (now (out .entry)) (now (held .entry)) (now (message .entry)) r (now (out .exit)) (now (held .exit)) (now (message .exit)) ⌝ }
 {
-    let mut message = [0u8; MESSAGE];
-    match next::next(s, state, step, channel, m, out, &mut message) {
+    match next::next(s, state, step, channel, m, out, held, message) {
         Next::Found(found) => Arrived::By(
             found,
-            led(s, state, found, taken, &message[0..MESSAGE], m, out),
+            led(s, state, found, taken, message, quiet, m, out),
         ),
         Next::None => Arrived::None,
     }

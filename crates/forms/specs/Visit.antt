@@ -52,6 +52,6 @@ NamesSmall T n = Every (λ k. k ≤ 28664) (n ∷ numbersOf T)
 
 -- Whatever thread has its record there, the answer and the bytes show the course of the walk over it.
 pub record Visits (s label : List ℕ) (at : ℕ) (m : List ℕ) (T : Task) (out : List ℕ) (now r : Progress) (after : List ℕ) : Type 0 where
-  pub exact : (t : Placed) (x : Message) (g : Going) {next : ℕ} → RecordAt s out at t next → Labelled label x → length s ≤ 12288
+  pub exact : (t : Placed) (x : Message) (g : Going) {next : ℕ} → RecordAt s out at t next → Labelled label x → length s ≤ 36864
       → 10750 ≤ length m → NamesSmall T (g .names) → Meant s T → Shows s out now g
       → ShowsCourse s after r (go (processOf (t .thread)) T x (t .place) (boundOf (t .thread)) g)

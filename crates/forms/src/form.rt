@@ -42,7 +42,7 @@ pub fn finish(done: Progress) -> Formed
 // The start state of the model that the slice s is, written into the work bytes from a position on. The bytes m are for the messages
 // that are bound on the way.
 pub fn start(s: &[u8], m: &mut [u8], out: &mut [u8], begin: usize) -> Formed
-    requires { ⌜ (length (now s) ≤ 12288) × (10750 ≤ length (now m)) × (begin + 3964 ≤ length (now out)) ⌝ }
+    requires { ⌜ (length (now s) ≤ 36864) × (10750 ≤ length (now m)) × (begin + 3964 ≤ length (now out)) ⌝ }
     ensures { λ _. ⌜ Within 0 (length (now (m .entry))) (now (m .entry)) (now (m .exit)) ⌝ }
     ensures { λ _. ⌜ Within begin (length (now (out .entry))) (now (out .entry)) (now (out .exit)) ⌝ }
     ensures { λ r. ⌜ Starts (now (s .entry)) begin r (now (out .exit)) ⌝ }

@@ -3,6 +3,7 @@ use states::progress::Progress;
 use states::state::State;
 use states::stored;
 use threads::task::Task;
+use walks::build;
 use walks::walk;
 ghost use Prim.Native.Nat.{_+_, _≤_};
 ghost use lib.ListN.{length};
@@ -36,12 +37,15 @@ pub fn visit(
     out: &mut [u8],
     done: Progress,
 ) -> Progress
-    requires { ⌜ (at + 4 ≤ length (now out)) × (length (now s) ≤ 12288) ⌝ }
+    requires { ⌜ (at + 4 ≤ length (now out)) × (length (now s) ≤ 36864) ⌝ }
     ensures { λ r. ⌜ Extends done r ⌝ }
     ensures { λ _. ⌜ Within 0 (length (now (m .entry))) (now (m .entry)) (now (m .exit)) ⌝ }
     ensures { λ _. ⌜ Within (done .state .end) (length (now (out .entry))) (now (out .entry)) (now (out .exit)) ⌝ }
     ensures { λ r. ⌜ Visits (now (s .entry)) (now (label .entry)) at (now (m .entry)) task (now (out .entry)) done r (now (out .exit)) ⌝ }
 {
     let t = stored::load(out, at, m);
+    if let Task::Build(plan, opens) = task {
+        return build::build(s, label, t.place, NODES, m, t.end, plan, opens, out, done);
+    }
     walk::walk(s, label, t.place, NODES, m, t.end, task, out, done)
 }

@@ -1,8 +1,9 @@
--- The index of a model: where each of its processes ends ("Bytes"). Assumes nothing.
+-- The index of a model: an entry for each of its processes ("Bytes"). Assumes nothing.
 use mathlib.Core.Path.{_≡_}
 use mathlib.Core.List.{List, [], _∷_}
-use Prim.Native.Nat.{ℕ, _+_, _*_, _≤_}
-use lib.ListN.{length}
+use mathlib.Core.Bool.{Bool}
+use Prim.Native.Nat.{ℕ, _+_, _*_, _≤_, _<_}
+use lib.ListN.{length, getD}
 use Rattle.meaning.specs.Bytes.Process.{output, input, Process, nil, new, act, if, let-in, par, repl}
 use Rattle.meaning.specs.Bytes.Encoding.{encodeTerm, encodeProcess}
 use Rattle.meaning.specs.Bytes.Nesting.{processDepth}
@@ -11,19 +12,25 @@ use Rattle.meaning.specs.Bytes.WellFormed.{IsModel}
 use Rattle.nodes.specs.Buffer.{Within}
 use Rattle.nodes.specs.Encoding.{encodeNode}
 use Rattle.layouts.specs.Ends.{row}
+use Rattle.indexes.specs.declared.entry.Entry.{Entry}
+use Rattle.indexes.specs.Entry.{lastOf, fixedNames, entryOf, rowOf, Small}
 
 -- Where the entry of a position stands.
 abbrev pub entryAt : ℕ → ℕ
-entryAt at = 4096 + 2 * at
+entryAt at = 4096 + 8 * at
 
--- The entry of a position says where a process ends.
-abbrev pub EntryOf : List ℕ → (at end : ℕ) → Type 0
-EntryOf s at end = Stands s (entryAt at) (encodeNode end) (entryAt at + 2)
+-- The numbers of an entry, two bytes each.
+abbrev pub numbersOf : Entry → List ℕ
+numbersOf e = e .end ∷ e .output ∷ e .input ∷ e .names ∷ []
 
+abbrev pub EntryOf : List ℕ → (at : ℕ) → Entry → Type 0
+EntryOf s at e = Stands s (entryAt at) (row encodeNode (numbersOf e)) (entryAt at + 8)
+
+-- The entry of a position is the one of a process.
 abbrev pub Noted : List ℕ → (at : ℕ) → Process → Type 0
-Noted s at P = EntryOf s at (at + length (encodeProcess P))
+Noted s at P = EntryOf s at (entryOf at P)
 
--- So it does for every process that is in P, which stands at the position.
+-- So it is for every process that is in P, which stands at the position.
 abbrev pub Indexed : List ℕ → (at : ℕ) → Process → Type 0
 Indexed s at nil = Noted s at nil
 Indexed s at (new P) = Noted s at (new P) × Indexed s (at + 1) P
@@ -43,19 +50,34 @@ pub record InModel (s : List ℕ) (at : ℕ) (P : Process) (end : ℕ) : Type 0 
   pub indexed : Indexed s at P
   pub inside : end ≤ 4096
 
--- The answer is where such a process ends.
+-- The answer is a number of the entry of such a process.
+pub record Says (s : List ℕ) (at field r : ℕ) : Type 0 where
+  pub same : (P : Process) {end : ℕ} → InModel s at P end → r ≡ getD (numbersOf (entryOf at P)) field 0
+
+-- So it is where the process ends, the position after its last output or input, and its private names.
 pub record Ends (s : List ℕ) (at r : ℕ) : Type 0 where
   pub same : (P : Process) {end : ℕ} → InModel s at P end → r ≡ end
 
--- The entry of a position is written, and nothing else.
-pub record Notes (s : List ℕ) (at end : ℕ) (after : List ℕ) : Type 0 where
-  pub own : end ≤ 4096 → Within (entryAt at) (entryAt at + 2) s after
-  pub noted : at + 1 ≤ end → end ≤ 4096 → EntryOf after at end
+pub record Lasts (s : List ℕ) (at : ℕ) (out : Bool) (r : ℕ) : Type 0 where
+  pub same : (P : Process) {end : ℕ} → InModel s at P end → r ≡ lastOf out at P
 
--- Whatever process stands there, its end is the answer, it is in the index after the call, and entries of other positions are left.
-pub record Indexes (s : List ℕ) (at left r : ℕ) (after : List ℕ) : Type 0 where
+pub record Fixes (s : List ℕ) (at r : ℕ) : Type 0 where
+  pub same : (P : Process) {end : ℕ} → InModel s at P end → r ≡ fixedNames P
+
+-- Two numbers are written, and nothing else.
+pub record Writes (s : List ℕ) (at v w : ℕ) (after : List ℕ) : Type 0 where
+  pub there : Stands after at (row encodeNode (v ∷ w ∷ [])) (at + 4)
+  pub frame : Within at (at + 4) s after
+
+-- The entry of a position is written, and nothing else.
+pub record Notes (s : List ℕ) (at : ℕ) (e : Entry) (after : List ℕ) : Type 0 where
+  pub own : Within (entryAt at) (entryAt at + 8) s after
+  pub noted : at < 4096 → Small e → EntryOf after at e
+
+-- Whatever process stands there, the answer is its entry, it is in the index after the call, and entries of other positions are left.
+pub record Indexes (s : List ℕ) (at left : ℕ) (r : Entry) (after : List ℕ) : Type 0 where
   pub exact : (P : Process) {end : ℕ} → Stands s at (encodeProcess P) end → processDepth P ≤ left → end ≤ 4096
-      → (r ≡ end) × Indexed after at P × Within (entryAt at) (entryAt end) s after
+      → (r ≡ entryOf at P) × Indexed after at P × Within (entryAt at) (entryAt end) s after
 
 -- The same of processes in a row.
 abbrev pub IndexedRow : List ℕ → (at : ℕ) → List Process → Type 0
@@ -66,9 +88,9 @@ abbrev pub DeepRow : (left : ℕ) → List Process → Type 0
 DeepRow left [] = Unit {0}
 DeepRow left (P ∷ Ps) = (processDepth P ≤ left) × DeepRow left Ps
 
-pub record IndexesRow (s : List ℕ) (at left count r : ℕ) (after : List ℕ) : Type 0 where
+pub record IndexesRow (s : List ℕ) (at left count : ℕ) (r : Entry) (after : List ℕ) : Type 0 where
   pub exact : (Ps : List Process) {end : ℕ} → length Ps ≡ count → count ≤ 2 → Stands s at (row encodeProcess Ps) end → DeepRow left Ps
-      → end ≤ 4096 → (r ≡ end) × IndexedRow after at Ps × Within (entryAt at) (entryAt end) s after
+      → end ≤ 4096 → (r ≡ rowOf at Ps) × IndexedRow after at Ps × Within (entryAt at) (entryAt end) s after
 
 -- Whatever model the slice is, it stands at the front of the other one, and is in its index.
 pub record Builds (model s : List ℕ) : Type 0 where

@@ -1,98 +1,146 @@
-// The index of a model ("Bytes"): the model stands in the first 4,096 bytes of a slice, and behind them two bytes for each position say
-// where the process ends that stands there.
+// The index of a model ("Bytes"): the model stands in the first 4,096 bytes of a slice, and behind them the entry of each position, eight
+// bytes, says what is to be known of the process that stands there.
+use crate::entry;
+use crate::entry::Entry;
 use layouts::ends;
 use layouts::layout;
 use layouts::layout::Layout;
 use nodes::node;
 use nodes::run;
 ghost use mathlib.Core.Path.{_≡_};
-ghost use Prim.Native.Nat.{_+_, _≤_};
+ghost use Prim.Native.Nat.{_+_, _≤_, _<_};
 ghost use lib.ListN.{length};
 ghost use Rattle.nodes.specs.Buffer.{Within};
-ghost use Rattle.indexes.specs.Index.{Ends, Notes, Indexes, IndexesRow, Builds};
+ghost use Rattle.indexes.specs.Index.{Says, Ends, Lasts, Fixes, Writes, Notes, Indexes, IndexesRow, Builds};
 
-// How many bytes are kept for the model, and how many there are with the index.
-const MODEL: usize = 4096;
+// How many bytes there are with the index.
+pub const LENGTH: usize = 36864;
 
-pub const LENGTH: usize = 12288;
+// The numbers of an entry, in their order.
+const END: usize = 0;
+
+const OUTPUT: usize = 1;
+
+const INPUT: usize = 2;
+
+const NAMES: usize = 3;
 
 // The most process nodes on one path.
 const NODES: usize = 64;
+
+// A number of the entry of a position.
+fn number(s: &[u8], at: usize, field: usize) -> usize
+    requires { ⌜ field < 4 ⌝ }
+    ensures { λ r. ⌜ r < 65536 ⌝ }
+    ensures { λ r. ⌜ Says (now (s .entry)) at field r ⌝ }
+{
+    if entry::MODEL <= at {
+        return 0;
+    }
+    let entry = entry::MODEL + 8 * at;
+    if s.len() < entry + 8 {
+        return 0;
+    }
+    node::number(s, entry + 2 * field)
+}
 
 // The end of the process at a position, if one stands there that the index has.
 pub fn end(s: &[u8], at: usize) -> usize
     ensures { λ r. ⌜ at ≤ r ⌝ }
     ensures { λ r. ⌜ Ends (now (s .entry)) at r ⌝ }
 {
-    if MODEL <= at {
-        return at;
-    }
-    let entry = MODEL + 2 * at;
-    if s.len() < entry + 2 {
-        return at;
-    }
-    let noted = node::number(s, entry);
+    let noted = number(s, at, END);
     if noted < at {
         return at;
     }
     noted
 }
 
-// Notes the end of the process at a position.
-fn note(s: &mut [u8], at: usize, end: usize)
-    requires { ⌜ length (now s) ≡ 12288 ⌝ }
-    ensures { λ _. ⌜ Within 4096 12288 (now (s .entry)) (now (s .exit)) ⌝ }
-    ensures { λ _. ⌜ Notes (now (s .entry)) at end (now (s .exit)) ⌝ }
+// The position after the kind of the last output, or input, that such a process offers at once; 0 if there is none.
+pub fn last(s: &[u8], at: usize, output: bool) -> usize
+    ensures { λ r. ⌜ Lasts (now (s .entry)) at output r ⌝ }
 {
-    if MODEL <= at {
-        return;
+    if output {
+        return number(s, at, OUTPUT);
     }
-    if MODEL < end {
-        return;
-    }
-    node::write(s, MODEL + 2 * at, end);
+    number(s, at, INPUT)
 }
 
-// Notes the ends of the process at a position and of all that is in it, with so many nodes left on its path; the answer is its end.
-fn index(s: &mut [u8], at: usize, left: usize) -> usize
-    requires { ⌜ length (now s) ≡ 12288 ⌝ }
-    ensures { λ _. ⌜ Within 4096 12288 (now (s .entry)) (now (s .exit)) ⌝ }
+// How many private names settling such a process takes, and one more; 0 if a message decides that.
+pub fn names(s: &[u8], at: usize) -> usize
+    ensures { λ r. ⌜ r < 65536 ⌝ }
+    ensures { λ r. ⌜ Fixes (now (s .entry)) at r ⌝ }
+{
+    number(s, at, NAMES)
+}
+
+// Writes two numbers at a position.
+fn write(s: &mut [u8], at: usize, first: usize, second: usize)
+    requires { ⌜ (at + 3 < length (now s)) × (first < 65536) × (second < 65536) ⌝ }
+    ensures { λ _. ⌜ length (now (s .exit)) ≡ length (now (s .entry)) ⌝ }
+    ensures { λ _. ⌜ Writes (now (s .entry)) at first second (now (s .exit)) ⌝ }
+{
+    node::write(s, at, first);
+    node::write(s, at + 2, second);
+}
+
+// Notes the entry of a position.
+fn note(s: &mut [u8], at: usize, entry: Entry)
+    requires { ⌜ length (now s) ≡ 36864 ⌝ }
+    ensures { λ _. ⌜ Within 4096 36864 (now (s .entry)) (now (s .exit)) ⌝ }
+    ensures { λ _. ⌜ Notes (now (s .entry)) at entry (now (s .exit)) ⌝ }
+{
+    if entry::MODEL <= at {
+        return;
+    }
+    if entry::large(entry) {
+        return;
+    }
+    let place = entry::MODEL + 8 * at;
+    write(s, place, entry.end, entry.output);
+    write(s, place + 4, entry.input, entry.names);
+}
+
+// Notes the entries of the process at a position and of all that is in it, with so many nodes left on its path; the answer is its own.
+fn index(s: &mut [u8], at: usize, left: usize) -> Entry
+    requires { ⌜ length (now s) ≡ 36864 ⌝ }
+    ensures { λ _. ⌜ Within 4096 36864 (now (s .entry)) (now (s .exit)) ⌝ }
     ensures { λ r. ⌜ Indexes (now (s .entry)) at left r (now (s .exit)) ⌝ }
 {
     if left == 0 {
-        return at;
+        return entry::none(at);
     }
-    if MODEL <= at {
-        return at;
+    if entry::MODEL <= at {
+        return entry::none(at);
     }
     let k = node::wide(s[at]) % layout::PROCESS_KINDS;
     let Layout(fields, _, _, parts) = layout::process(k);
     let own = ends::terms(s, at + 1, fields);
-    let end = row(s, own, left - 1, parts);
-    note(s, at, end);
-    end
+    let entry = entry::node(k, at, row(s, own, left - 1, parts));
+    note(s, at, entry);
+    entry
 }
 
 // The same of so many processes in a row, two at most.
-fn row(s: &mut [u8], at: usize, left: usize, count: usize) -> usize
-    requires { ⌜ length (now s) ≡ 12288 ⌝ }
-    ensures { λ _. ⌜ Within 4096 12288 (now (s .entry)) (now (s .exit)) ⌝ }
+fn row(s: &mut [u8], at: usize, left: usize, count: usize) -> Entry
+    requires { ⌜ length (now s) ≡ 36864 ⌝ }
+    ensures { λ _. ⌜ Within 4096 36864 (now (s .entry)) (now (s .exit)) ⌝ }
     ensures { λ r. ⌜ IndexesRow (now (s .entry)) at left count r (now (s .exit)) ⌝ }
 {
     if count == 0 {
-        return at;
+        return entry::none(at);
     }
     let first = index(s, at, left);
     if count == 1 {
         return first;
     }
-    index(s, first, left)
+    entry::joined(first, index(s, first.end, left))
 }
 
 // The model that the first slice is, put into the second one with its index.
 pub fn build(model: &[u8], s: &mut [u8])
-    requires { ⌜ (length (now model) ≤ 4096) × (length (now s) ≡ 12288) ⌝ }
-    ensures { λ _. ⌜ length (now (s .exit)) ≡ 12288 ⌝ }
+    requires { ⌜ (length (now model) ≤ 4096) × (length (now s) ≡ 36864) ⌝ }
+    ensures { λ _. ⌜ length (now (s .exit)) ≡ 36864 ⌝ }
     ensures { λ _. ⌜ Builds (now (model .entry)) (now (s .exit)) ⌝ }
 {
     run::put(model, s, 0);

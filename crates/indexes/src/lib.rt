@@ -1,2 +1,3 @@
-// The index of a model: where each of its processes ends, so that nobody goes over a process to find what stands behind it ("Bytes").
+// The index of a model: what is to be known of each of its processes, so that nobody goes over a process to find it ("Bytes").
+mod entry;
 pub mod index;

@@ -1,4 +1,5 @@
 pub mod Judged
+pub mod Quiet
 pub mod Reached
 pub mod Visit
 pub mod Steps

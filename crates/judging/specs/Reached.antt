@@ -14,7 +14,7 @@ use Rattle.moves.specs.Held.{Held}
 
 -- The model is short, and there is room for bound messages and for states.
 pub record Room (s m out : List ℕ) : Type 0 where
-  pub short : length s ≤ 12288
+  pub short : length s ≤ 36864
   pub wide : 10750 ≤ length m
   pub long : 65536 ≤ length out
 

@@ -1,11 +1,12 @@
 -- A visit by a step formula: its body is judged at each state that a step of its label leads to ("Judging and its count"). Assumes nothing.
 use mathlib.Core.Path.{_≡_}
-use mathlib.Core.Bool.{Bool, false, _||_}
+use mathlib.Core.Bool.{Bool, true, false, _||_}
 use mathlib.Core.List.{List, map}
 use Prim.Native.Nat.{ℕ, _+_, _<_, _≤_}
 use lib.ListN.{length}
 use Rattle.meaning.specs.Messages.Term.{Message}
 use Rattle.meaning.specs.Bytes.Formula.{Label, Formula}
+use Rattle.meaning.specs.Bytes.Nesting.{stepDepth}
 use Rattle.meaning.specs.Bytes.Scope.{bindsLabel}
 use Rattle.meaning.specs.Steps.State.{State}
 use Rattle.meaning.specs.Judging.{Judgement, someOf, judge}
@@ -18,10 +19,11 @@ use Rattle.forms.specs.Visit.{Labelled}
 use Rattle.forms.specs.declared.form.Formed.{Formed}
 use Rattle.moves.specs.Moves.{Move}
 use Rattle.moves.specs.Outcome.{outcome, arrivalOf}
-use Rattle.moves.specs.Behind.{movesOf, Behind}
+use Rattle.moves.specs.Behind.{movesOf}
 use Rattle.moves.specs.declared.step.Step as step
 use Rattle.moves.specs.declared.step.Label as step-label
 use Rattle.moves.specs.declared.step.Label.the-variants.{Input}
+use Rattle.steps.specs.Kept.{Resuming}
 use Rattle.labels.specs.Place.{kindOf, FormulaAt, LabelAt}
 use Rattle.labels.specs.Head.{stepLabel, channelOf, takenOf}
 use Rattle.labels.specs.declared.head.Head as head
@@ -80,24 +82,26 @@ someWith sum k = record { truth = sum .truth || k .truth; count = k .count; limi
 unfoldable pub toCome : Sum → List Judgement → Judged
 toCome sum js = judgedOf (sum .left + 1) (someWith sum (someOf js))
 
--- A further step, behind which there are moves, with what has come so far.
-pub record Onward (l : step-label.Label) (start : ℕ) (ws : List Move) (judged : List Move → List Judgement) (total : Judged) (v : step.Step) (sum : Sum)
-    : Type 0 where
+-- A further step, behind which there are moves, with what it sends and on what at the fronts of two slices, and what has come so far.
+pub record Onward (l : step-label.Label) (start : ℕ) (ws : List Move) (judged : List Move → List Judgement) (total : Judged) (held message : List ℕ)
+    (v : step.Step) (sum : Sum) : Type 0 where
   pub label : v .label ≡ l
   pub others : List Move
-  pub behind : Behind l start ws v others
+  pub resuming : Resuming l start ws held message v others
   pub same : toCome sum (judged others) ≡ total
 
--- One turn: the next step is taken, and the body judged where it leads.
-pub record TurnTo (l : step-label.Label) (start : ℕ) (ws : List Move) (judged : List Move → List Judgement) (total : Judged) (r : Turn) : Type 0 where
+-- One turn: the next step is taken, and the body judged where it leads. Where quiet is true it has no steps.
+pub record TurnTo (l : step-label.Label) (start : ℕ) (ws : List Move) (judged : List Move → List Judgement) (total : Judged) (held message : List ℕ)
+    (r : Turn) : Type 0 where
   pub ends : (j : Judged) → r ≡ End j → j ≡ total
-  pub goes : (v : step.Step) (sum : Sum) → r ≡ On v sum → Onward l start ws judged total v sum
+  pub goes : (v : step.Step) (sum : Sum) → r ≡ On v sum → Onward l start ws judged total held message v sum
 
-pub record Turns (s f : List ℕ) (body depth : ℕ) (st : code.State) (from : step.Step) (channel taken m out : List ℕ) (sum : Sum) (r : Turn) (after : List ℕ)
-    : Type 0 where
-  pub exact : (q : Asked s f body depth st (from .label) channel taken m out) {others : List Move}
-      → Behind (from .label) (st .start) (movesAt q) from others
-      → TurnTo (from .label) (st .start) (movesAt q) (judgementsAt q) (toCome sum (judgementsAt q others)) r
+pub record Turns (quiet : Bool) (s f : List ℕ) (body depth : ℕ) (st : code.State) (from : step.Step) (channel taken m out held message : List ℕ) (sum : Sum) (r : Turn)
+    (after on said : List ℕ) : Type 0 where
+  pub exact : (q : Asked s f body depth st (from .label) channel taken m out) → (quiet ≡ true → stepDepth (q .formula) ≡ 0)
+      → {others : List Move} → 510 ≤ length held → 510 ≤ length message
+      → Resuming (from .label) (st .start) (movesAt q) held message from others
+      → TurnTo (from .label) (st .start) (movesAt q) (judgementsAt q) (toCome sum (judgementsAt q others)) on said r
       × Within (st .end) (length out) out after
 
 -- The body judged at the state that a step leads to, and added to what has come so far.

@@ -23,7 +23,7 @@ const NOT: usize = 1;
 const AND: usize = 2;
 
 // The most bytes of a model with its index.
-const MODEL: usize = 12288;
+const MODEL: usize = 36864;
 
 // The bytes that hold the states, and the last position where a state may end in them: 17 states, each of at most 2,976 bytes.
 const WORK: usize = 65536;
@@ -103,7 +103,7 @@ fn node(
     out: &mut [u8],
     left: u32,
 ) -> Judged
-    requires { ⌜ (length (now s) ≤ 12288) × (65536 ≤ length (now out)) × (state .end ≤ 50592) × (state .aliases ≤ state .end) ⌝ }
+    requires { ⌜ (length (now s) ≤ 36864) × (65536 ≤ length (now out)) × (state .end ≤ 50592) × (state .aliases ≤ state .end) ⌝ }
     requires { ⌜ at < length (now f) ⌝ }
     ensures { λ _. ⌜ length (now (m .exit)) ≡ length (now (m .entry)) ⌝ }
     ensures { λ _. ⌜ length (now (out .exit)) ≡ length (now (out .entry)) ⌝ }
@@ -147,7 +147,7 @@ fn negation(
     out: &mut [u8],
     left: u32,
 ) -> Judged
-    requires { ⌜ (length (now s) ≤ 12288) × (65536 ≤ length (now out)) × (state .end ≤ 50592) × (state .aliases ≤ state .end) ⌝ }
+    requires { ⌜ (length (now s) ≤ 36864) × (65536 ≤ length (now out)) × (state .end ≤ 50592) × (state .aliases ≤ state .end) ⌝ }
     ensures { λ _. ⌜ length (now (m .exit)) ≡ length (now (m .entry)) ⌝ }
     ensures { λ _. ⌜ length (now (out .exit)) ≡ length (now (out .entry)) ⌝ }
     ensures { λ r. ⌜ Less (left + 1) r ⌝ }
@@ -170,7 +170,7 @@ fn conjunction(
     out: &mut [u8],
     left: u32,
 ) -> Judged
-    requires { ⌜ (length (now s) ≤ 12288) × (65536 ≤ length (now out)) × (state .end ≤ 50592) × (state .aliases ≤ state .end) ⌝ }
+    requires { ⌜ (length (now s) ≤ 36864) × (65536 ≤ length (now out)) × (state .end ≤ 50592) × (state .aliases ≤ state .end) ⌝ }
     ensures { λ _. ⌜ length (now (m .exit)) ≡ length (now (m .entry)) ⌝ }
     ensures { λ _. ⌜ length (now (out .exit)) ≡ length (now (out .entry)) ⌝ }
     ensures { λ r. ⌜ Less (left + 1) r ⌝ }
@@ -206,7 +206,7 @@ fn second(
     out: &mut [u8],
     first: Sum,
 ) -> Judged
-    requires { ⌜ (length (now s) ≤ 12288) × (65536 ≤ length (now out)) × (state .end ≤ 50592) × (state .aliases ≤ state .end) ⌝ }
+    requires { ⌜ (length (now s) ≤ 36864) × (65536 ≤ length (now out)) × (state .end ≤ 50592) × (state .aliases ≤ state .end) ⌝ }
     ensures { λ _. ⌜ length (now (m .exit)) ≡ length (now (m .entry)) ⌝ }
     ensures { λ _. ⌜ length (now (out .exit)) ≡ length (now (out .entry)) ⌝ }
     ensures { λ r. ⌜ Less (first .left) r ⌝ }

@@ -2,4 +2,5 @@
 mod judge;
 pub mod judged;
 pub mod model;
+mod quiet;
 mod stepping;

@@ -27,7 +27,7 @@ pub fn judge(s: &[u8], f: &[u8], m: &mut [u8], out: &mut [u8], budget: u32) -> J
 
 // The same, where the model is put into a slice with its index.
 fn build(model: &[u8], s: &mut [u8], f: &[u8], m: &mut [u8], out: &mut [u8], budget: u32) -> Judged
-    requires { ⌜ (length (now model) ≤ 4096) × (length (now s) ≡ 12288) × (10750 ≤ length (now m)) × (65536 ≤ length (now out)) ⌝ }
+    requires { ⌜ (length (now model) ≤ 4096) × (length (now s) ≡ 36864) × (10750 ≤ length (now m)) × (65536 ≤ length (now out)) ⌝ }
     ensures { λ _. ⌜ length (now (m .exit)) ≡ length (now (m .entry)) ⌝ }
     ensures { λ _. ⌜ length (now (out .exit)) ≡ length (now (out .entry)) ⌝ }
     ensures { λ r. ⌜ Less budget r ⌝ }
@@ -39,7 +39,7 @@ fn build(model: &[u8], s: &mut [u8], f: &[u8], m: &mut [u8], out: &mut [u8], bud
 
 // The same of a model that stands in a slice with its index.
 fn start(s: &[u8], f: &[u8], m: &mut [u8], out: &mut [u8], budget: u32) -> Judged
-    requires { ⌜ (length (now s) ≤ 12288) × (10750 ≤ length (now m)) × (65536 ≤ length (now out)) ⌝ }
+    requires { ⌜ (length (now s) ≤ 36864) × (10750 ≤ length (now m)) × (65536 ≤ length (now out)) ⌝ }
     ensures { λ _. ⌜ length (now (m .exit)) ≡ length (now (m .entry)) ⌝ }
     ensures { λ _. ⌜ length (now (out .exit)) ≡ length (now (out .entry)) ⌝ }
     ensures { λ r. ⌜ Less budget r ⌝ }

@@ -4,6 +4,7 @@ use crate::judged;
 use crate::judged::Judged;
 use crate::judged::Sum;
 use crate::judged::Turn;
+use crate::quiet;
 use arrivals::arrive;
 use arrivals::arrive::Arrived;
 use forms::form::Formed;
@@ -34,7 +35,7 @@ pub(crate) fn step(
     out: &mut [u8],
     left: u32,
 ) -> Judged
-    requires { ⌜ (length (now s) ≤ 12288) × (65536 ≤ length (now out)) × (state .end ≤ 50592) × (state .aliases ≤ state .end) ⌝ }
+    requires { ⌜ (length (now s) ≤ 36864) × (65536 ≤ length (now out)) × (state .end ≤ 50592) × (state .aliases ≤ state .end) ⌝ }
     ensures { λ _. ⌜ length (now (m .exit)) ≡ length (now (m .entry)) ⌝ }
     ensures { λ _. ⌜ length (now (out .exit)) ≡ length (now (out .entry)) ⌝ }
     ensures { λ r. ⌜ Less (left + 1) r ⌝ }
@@ -72,7 +73,8 @@ pub(crate) fn step(
     }
 }
 
-// The body of a step formula, judged at each state that a step of its label leads to.
+// The body of a step formula, judged at each state that a step of its label leads to. What a step sends, and the channel of a silent step of two
+// threads, stay from one step to the next.
 fn steps(
     s: &[u8],
     f: &[u8],
@@ -85,7 +87,7 @@ fn steps(
     out: &mut [u8],
     left: u32,
 ) -> Judged
-    requires { ⌜ (length (now s) ≤ 12288) × (65536 ≤ length (now out)) × (state .end ≤ 50592) × (state .aliases ≤ state .end) ⌝ }
+    requires { ⌜ (length (now s) ≤ 36864) × (65536 ≤ length (now out)) × (state .end ≤ 50592) × (state .aliases ≤ state .end) ⌝ }
     ensures { λ _. ⌜ length (now (m .exit)) ≡ length (now (m .entry)) ⌝ }
     ensures { λ _. ⌜ length (now (out .exit)) ≡ length (now (out .entry)) ⌝ }
     ensures { λ r. ⌜ Less (left + 1) r ⌝ }
@@ -99,8 +101,26 @@ fn steps(
         left: left,
     };
     let body = head.body;
+    let quiet = quiet::quiet(f, body, depth);
+    let mut held = [0u8; MESSAGE];
+    let mut message = [0u8; MESSAGE];
     loop {
-        match turn(s, f, body, depth, state, from, channel, taken, m, out, sum) {
+        match turn(
+            s,
+            f,
+            body,
+            depth,
+            state,
+            from,
+            channel,
+            taken,
+            quiet,
+            m,
+            out,
+            &mut held,
+            &mut message,
+            sum,
+        ) {
             Turn::On(found, more) => {
                 from = found;
                 sum = more;
@@ -122,17 +142,22 @@ fn turn(
     from: Step,
     channel: &[u8],
     taken: &[u8],
+    quiet: bool,
     m: &mut [u8],
     out: &mut [u8],
+    held: &mut [u8],
+    message: &mut [u8],
     sum: Sum,
 ) -> Turn
-    requires { ⌜ (length (now s) ≤ 12288) × (65536 ≤ length (now out)) × (state .end ≤ 50592) × (state .aliases ≤ state .end) ⌝ }
+    requires { ⌜ (length (now s) ≤ 36864) × (65536 ≤ length (now out)) × (state .end ≤ 50592) × (state .aliases ≤ state .end) ⌝ }
     ensures { λ _. ⌜ length (now (m .exit)) ≡ length (now (m .entry)) ⌝ }
     ensures { λ _. ⌜ length (now (out .exit)) ≡ length (now (out .entry)) ⌝ }
+    ensures { λ _. ⌜ length (now (held .exit)) ≡ length (now (held .entry)) ⌝ }
+    ensures { λ _. ⌜ length (now (message .exit)) ≡ length (now (message .entry)) ⌝ }
     ensures { λ r. ⌜ Falls (sum .left) r ⌝ }
-    ensures { λ r. ⌜ Turns (now (s .entry)) (now (f .entry)) body depth state from (now (channel .entry)) (now (taken .entry)) (now (m .entry)) (now (out .entry)) sum r (now (out .exit)) ⌝ }
+    ensures { λ r. ⌜ Turns quiet (now (s .entry)) (now (f .entry)) body depth state from (now (channel .entry)) (now (taken .entry)) (now (m .entry)) (now (out .entry)) (now (held .entry)) (now (message .entry)) sum r (now (out .exit)) (now (held .exit)) (now (message .exit)) ⌝ }
 {
-    match arrive::next(s, state, from, channel, taken, m, out) {
+    match arrive::next(s, state, from, channel, taken, quiet, m, out, held, message) {
         Arrived::By(found, formed) => count(s, f, body, depth, found, formed, m, out, sum),
         Arrived::None => Turn::End(Judged::Done(sum.truth, sum.limited, sum.left)),
     }

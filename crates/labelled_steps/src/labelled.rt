@@ -69,7 +69,7 @@ fn send(
     out: &mut [u8],
     message: &mut [u8],
 ) -> Next
-    requires { ⌜ (length (now s) ≤ 12288) × (state .end ≤ length (now out)) ⌝ }
+    requires { ⌜ (length (now s) ≤ 36864) × (state .end ≤ length (now out)) ⌝ }
     ensures { λ _. ⌜ Within 0 (length (now (m .entry))) (now (m .entry)) (now (m .exit)) ⌝ }
     ensures { λ _. ⌜ Within (state .end) (length (now (out .entry))) (now (out .entry)) (now (out .exit)) ⌝ }
     ensures { λ _. ⌜ Within 0 (length (now (message .entry))) (now (message .entry)) (now (message .exit)) ⌝ }
@@ -106,7 +106,7 @@ fn take(
     out: &mut [u8],
     message: &[u8],
 ) -> Next
-    requires { ⌜ (length (now s) ≤ 12288) × (state .end ≤ length (now out)) ⌝ }
+    requires { ⌜ (length (now s) ≤ 36864) × (state .end ≤ length (now out)) ⌝ }
     ensures { λ _. ⌜ Within 0 (length (now (m .entry))) (now (m .entry)) (now (m .exit)) ⌝ }
     ensures { λ _. ⌜ Within (state .end) (length (now (out .entry))) (now (out .entry)) (now (out .exit)) ⌝ }
     ensures { λ r. ⌜ Follows false (now (s .entry)) (now (channel .entry)) state at from (now (m .entry)) (now (out .entry)) (now (message .entry)) r (now (message .entry)) ⌝ }
@@ -157,7 +157,7 @@ pub fn next(
     out: &mut [u8],
     message: &mut [u8],
 ) -> Next
-    requires { ⌜ (length (now s) ≤ 12288) × (state .end ≤ length (now out)) ⌝ }
+    requires { ⌜ (length (now s) ≤ 36864) × (state .end ≤ length (now out)) ⌝ }
     ensures { λ _. ⌜ Within 0 (length (now (m .entry))) (now (m .entry)) (now (m .exit)) ⌝ }
     ensures { λ _. ⌜ Within (state .end) (length (now (out .entry))) (now (out .entry)) (now (out .exit)) ⌝ }
     ensures { λ _. ⌜ Within 0 (length (now (message .entry))) (now (message .entry)) (now (message .exit)) ⌝ }

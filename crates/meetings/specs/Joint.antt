@@ -1,6 +1,6 @@
 -- The next silent step of the threads of a state in their copies ("Steps"). Assumes nothing.
 use mathlib.Core.Path.{_≡_}
-use mathlib.Core.Bool.{true, false}
+use mathlib.Core.Bool.{Bool, true, false}
 use mathlib.Core.List.{List, [], _∷_, _++_, flatMap}
 use Prim.Native.Nat.{ℕ, _+_, _*_, _≤_}
 use lib.Dec.{eqb}
@@ -12,6 +12,7 @@ use Rattle.moves.specs.Threads.{Threads}
 use Rattle.moves.specs.CopyOffers.{ThreadAt, pairsFrom, senders, moved}
 use Rattle.moves.specs.Step.{Shown}
 use Rattle.moves.specs.declared.step.Next.{Next}
+use Rattle.forms.specs.Visit.{RecordAt}
 use Rattle.states.specs.declared.progress.Progress.{Progress}
 use Rattle.moves.specs.CopyMoves.{groupMoves, copyMoves, laterSpots, copyMovesFrom, Roomy}
 
@@ -25,6 +26,11 @@ pub record Joins (s : List ℕ) (at k to : ℕ) (m : List ℕ) (copy mode x y le
     pub later : (start : ℕ) (p : Spot) (pre post : List Opened) (w : Opened) → Threads s out at k (p .thread ∷ p .behind) to
         → Roomy s out m message k to → at ≡ recordAt start p → copiesOf (p .thread) k ≡ pre ++ (w ∷ post) → copy ≡ w .place + 1
         → 1 ≤ mode → mode ≤ 2 → 2 * length post + 3 ≤ left + mode → Shown start said r (copyMovesFrom k p mode w post x y)
+
+-- If the answer is yes, whatever thread has its record there has no silent step in its copies.
+pub record Barren (s : List ℕ) (at : ℕ) (out : List ℕ) (r : Bool) : Type 0 where
+  pub exact : r ≡ true → (p : Spot) (k : ℕ) {next : ℕ} → RecordAt s out at (p .thread) next
+      → flatMap (groupMoves p) (copiesOf (p .thread) k) ≡ []
 
 -- The next repl thread after the one at a mark, or the first one; a walk that goes on has found none.
 abbrev pub ShowsCopy : Progress → List Opened → Type 0

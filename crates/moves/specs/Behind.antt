@@ -41,7 +41,7 @@ pub data Behind (l : Label) (start : ℕ) (ws : List Move) : step.Step → List 
 
 -- Room for the walks of a search, and for the message of what is found.
 pub record Searching (s : List ℕ) (st : code.State) (m out message : List ℕ) : Type 0 where
-  pub short : length s ≤ 12288
+  pub short : length s ≤ 36864
   pub wide : 10750 ≤ length m
   pub room : st .end + 3964 ≤ length out
   pub long : 510 ≤ length message

@@ -31,7 +31,7 @@ copyMovesFrom k p mode w post x y =
 
 -- Room for walks over the threads of a state that write from the position to on.
 pub record Roomy (s out m message : List ℕ) (k to : ℕ) : Type 0 where
-  pub short : length s ≤ 12288
+  pub short : length s ≤ 36864
   pub wide : 10750 ≤ length m
   pub room : to + 3964 ≤ length out
   pub few : k ≤ 128

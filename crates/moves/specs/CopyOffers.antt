@@ -25,7 +25,7 @@ pub record ThreadAt (s out m : List ℕ) (at k to : ℕ) (t : Placed) : Type 0 w
   pub recorded : RecordAt s out at t next
   pub below : next ≤ to
   pub judged : Judged k t
-  pub short : length s ≤ 12288
+  pub short : length s ≤ 36864
   pub wide : 10750 ≤ length m
   pub room : to + 3964 ≤ length out
   pub few : k ≤ 128

@@ -28,7 +28,7 @@ carried x (between p q w) = sentBy w
 
 -- Room for the walks over the state that is left, and for the state that is reached behind it.
 pub record Leading (s : List ℕ) (st : code.State) (S : State) (m out : List ℕ) : Type 0 where
-  pub short : length s ≤ 12288
+  pub short : length s ≤ 36864
   pub wide : 10750 ≤ length m
   pub room : st .end + (st .start - st .aliases) + 4476 ≤ length out
   pub few : length (S .aliases) < 16384

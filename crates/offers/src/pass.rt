@@ -1,4 +1,5 @@
 // Records of threads that surely have no offer of a quest, which are passed by without a walk ("Steps").
+use indexes::index;
 use nodes::node;
 use threads::task::Quest;
 use threads::thread;
@@ -36,7 +37,7 @@ fn afresh(quest: Quest) -> Quest
 
 // Whether the term at a position is a public name, and the label another message.
 fn differs(s: &[u8], label: &[u8], at: usize) -> bool
-    requires { ⌜ at ≤ 12288 ⌝ }
+    requires { ⌜ at ≤ 36864 ⌝ }
     ensures { λ r. ⌜ Differs (now (s .entry)) (now (label .entry)) at r ⌝ }
 {
     if s.len() <= at + 1 {
@@ -59,9 +60,9 @@ fn differs(s: &[u8], label: &[u8], at: usize) -> bool
 }
 
 // Whether the thread whose process stands at a position surely has no offer that is sought: an output or an input that is not meant, or has
-// another channel.
+// another channel; or a repl thread whose copies have no such offer, or none that comes so late.
 fn idle(s: &[u8], label: &[u8], place: usize, quest: Quest) -> bool
-    requires { ⌜ length (now s) ≤ 12288 ⌝ }
+    requires { ⌜ length (now s) ≤ 36864 ⌝ }
     ensures { λ r. ⌜ Idle (now (s .entry)) (now (label .entry)) place quest r ⌝ }
 {
     if s.len() <= place {
@@ -69,6 +70,9 @@ fn idle(s: &[u8], label: &[u8], place: usize, quest: Quest) -> bool
     }
     let kind = node::wide(s[place]);
     if kind == REPL {
+        if index::last(s, place, quest.output) <= quest.from {
+            return true;
+        }
         return false;
     }
     if thread::meant(quest, place, kind) {
@@ -82,7 +86,7 @@ fn idle(s: &[u8], label: &[u8], place: usize, quest: Quest) -> bool
 
 // Whether the record at a position is the one at the position skip, or that of such a thread.
 fn skipped(s: &[u8], label: &[u8], at: usize, quest: Quest, skip: usize, out: &[u8]) -> bool
-    requires { ⌜ (length (now s) ≤ 12288) × (at + 4 ≤ length (now out)) ⌝ }
+    requires { ⌜ (length (now s) ≤ 36864) × (at + 4 ≤ length (now out)) ⌝ }
     ensures { λ r. ⌜ Skips (now (s .entry)) (now (label .entry)) at quest skip (now (out .entry)) r ⌝ }
 {
     if at == skip {
@@ -101,7 +105,7 @@ pub(crate) fn pass(
     skip: usize,
     out: &[u8],
 ) -> Passed
-    requires { ⌜ (length (now s) ≤ 12288) × (to ≤ length (now out)) ⌝ }
+    requires { ⌜ (length (now s) ≤ 36864) × (to ≤ length (now out)) ⌝ }
     ensures { λ r. ⌜ at ≤ r .at ⌝ }
     ensures { λ r. ⌜ Passes (now (s .entry)) (now (label .entry)) at to quest skip (now (out .entry)) r ⌝ }
 {
@@ -135,7 +139,7 @@ pub(crate) fn behind(
     skip: usize,
     out: &[u8],
 ) -> Passed
-    requires { ⌜ (length (now s) ≤ 12288) × (at + 4 ≤ to) × (to ≤ length (now out)) ⌝ }
+    requires { ⌜ (length (now s) ≤ 36864) × (at + 4 ≤ to) × (to ≤ length (now out)) ⌝ }
     ensures { λ r. ⌜ at < r .at ⌝ }
     ensures { λ r. ⌜ Behind (now (s .entry)) (now (label .entry)) at to quest skip (now (out .entry)) r ⌝ }
 {

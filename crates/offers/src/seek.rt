@@ -6,8 +6,8 @@ use states::progress::Progress;
 use states::state::State;
 use states::stored;
 use threads::task::Quest;
-use threads::task::Task;
 use threads::thread;
+use walks::seek;
 ghost use mathlib.Core.Path.{_≡_};
 ghost use Prim.Native.Nat.{_+_, _≤_, _<_};
 ghost use lib.ListN.{length};
@@ -16,6 +16,9 @@ ghost use Rattle.offers.specs.Seek.{Looks, Alone, Seeks};
 
 // How many bytes above the bound messages may be needed to work terms.
 const REACH: usize = 4606;
+
+// The most process nodes on one path.
+const NODES: usize = 64;
 
 // An offer: where the record of its thread stands, and what the walk over that thread found. Its mark is 0 where there is none.
 pub struct Sighting {
@@ -52,7 +55,7 @@ fn alone(
     names: usize,
     out: &mut [u8],
 ) -> Progress
-    requires { ⌜ (at + 4 ≤ length (now out)) × (place < length (now s)) × (length (now s) ≤ 12288) ⌝ }
+    requires { ⌜ (at + 4 ≤ length (now out)) × (place < length (now s)) × (length (now s) ≤ 36864) ⌝ }
     ensures { λ _. ⌜ Within 0 (length (now (m .entry))) (now (m .entry)) (now (m .exit)) ⌝ }
     ensures { λ _. ⌜ Within to (length (now (out .entry))) (now (out .entry)) (now (out .exit)) ⌝ }
     ensures { λ r. ⌜ Alone (now (s .entry)) (now (label .entry)) at place to (now (m .entry)) quest names (now (out .entry)) r (now (out .exit)) ⌝ }
@@ -63,6 +66,39 @@ fn alone(
         return begun;
     }
     thread::seek(s, label, place, m, end, quest, names, out, begun)
+}
+
+// The first offer of the thread whose record stands at a position, by a walk over it. The walk goes on where there is none.
+fn walked(
+    s: &[u8],
+    label: &[u8],
+    at: usize,
+    to: usize,
+    m: &mut [u8],
+    quest: Quest,
+    names: usize,
+    out: &mut [u8],
+) -> Progress
+    requires { ⌜ (at + 4 ≤ length (now out)) × (length (now s) ≤ 36864) ⌝ }
+    ensures { λ _. ⌜ Within 0 (length (now (m .entry))) (now (m .entry)) (now (m .exit)) ⌝ }
+    ensures { λ _. ⌜ Within to (length (now (out .entry))) (now (out .entry)) (now (out .exit)) ⌝ }
+    ensures { λ r. ⌜ Looks (now (s .entry)) (now (label .entry)) at to (now (m .entry)) quest names (now (out .entry)) r (now (out .exit)) ⌝ }
+{
+    let t = stored::load(out, at, m);
+    let sought = seek::seek(
+        s,
+        label,
+        t.place,
+        NODES,
+        m,
+        t.end,
+        quest,
+        names,
+        names,
+        to,
+        out,
+    );
+    seek::progress(sought, to)
 }
 
 // The first offer of the thread whose record stands at a position: its own, or one of its copies, which are walked over. The walk goes on
@@ -77,7 +113,7 @@ fn look(
     names: usize,
     out: &mut [u8],
 ) -> Progress
-    requires { ⌜ (at + 4 ≤ length (now out)) × (length (now s) ≤ 12288) ⌝ }
+    requires { ⌜ (at + 4 ≤ length (now out)) × (length (now s) ≤ 36864) ⌝ }
     ensures { λ _. ⌜ Within 0 (length (now (m .entry))) (now (m .entry)) (now (m .exit)) ⌝ }
     ensures { λ _. ⌜ Within to (length (now (out .entry))) (now (out .entry)) (now (out .exit)) ⌝ }
     ensures { λ r. ⌜ Looks (now (s .entry)) (now (label .entry)) at to (now (m .entry)) quest names (now (out .entry)) r (now (out .exit)) ⌝ }
@@ -87,15 +123,7 @@ fn look(
         return visit::begin(to, names);
     }
     if node::wide(s[place]) == pass::REPL {
-        return visit::visit(
-            s,
-            label,
-            at,
-            m,
-            Task::Seek(quest, names),
-            out,
-            visit::begin(to, names),
-        );
+        return walked(s, label, at, to, m, quest, names, out);
     }
     alone(s, label, at, place, to, m, quest, names, out)
 }
@@ -113,7 +141,7 @@ pub fn seek(
     names: usize,
     out: &mut [u8],
 ) -> Sighting
-    requires { ⌜ (length (now s) ≤ 12288) × (to ≤ length (now out)) ⌝ }
+    requires { ⌜ (length (now s) ≤ 36864) × (to ≤ length (now out)) ⌝ }
     ensures { λ _. ⌜ Within 0 (length (now (m .entry))) (now (m .entry)) (now (m .exit)) ⌝ }
     ensures { λ _. ⌜ Within to (length (now (out .entry))) (now (out .entry)) (now (out .exit)) ⌝ }
     ensures { λ r. ⌜ Seeks (now (s .entry)) (now (label .entry)) at to (now (m .entry)) quest skip names (now (out .entry)) r (now (out .exit)) ⌝ }

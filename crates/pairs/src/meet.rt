@@ -28,7 +28,7 @@ fn look(
     copy: CopyAt,
     out: &mut [u8],
 ) -> Progress
-    requires { ⌜ (at + 4 ≤ length (now out)) × (length (now s) ≤ 12288) ⌝ }
+    requires { ⌜ (at + 4 ≤ length (now out)) × (length (now s) ≤ 36864) ⌝ }
     ensures { λ _. ⌜ Within 0 (length (now (m .entry))) (now (m .entry)) (now (m .exit)) ⌝ }
     ensures { λ _. ⌜ Within to (length (now (out .entry))) (now (out .entry)) (now (out .exit)) ⌝ }
     ensures { λ r. ⌜ Looks (now (s .entry)) (now (label .entry)) at names to (now (m .entry)) quest copy (now (out .entry)) r (now (out .exit)) ⌝ }
@@ -55,7 +55,7 @@ fn sender(
     from: usize,
     out: &mut [u8],
 ) -> Progress
-    requires { ⌜ (at + 4 ≤ length (now out)) × (length (now s) ≤ 12288) ⌝ }
+    requires { ⌜ (at + 4 ≤ length (now out)) × (length (now s) ≤ 36864) ⌝ }
     ensures { λ _. ⌜ Within 0 (length (now (m .entry))) (now (m .entry)) (now (m .exit)) ⌝ }
     ensures { λ _. ⌜ Within to (length (now (out .entry))) (now (out .entry)) (now (out .exit)) ⌝ }
     ensures { λ r. ⌜ Sends (now (s .entry)) at names to (now (m .entry)) copy from (now (out .entry)) r (now (out .exit)) ⌝ }
@@ -107,7 +107,7 @@ fn taker(
     from: usize,
     out: &mut [u8],
 ) -> Progress
-    requires { ⌜ (at + 4 ≤ length (now out)) × (length (now s) ≤ 12288) ⌝ }
+    requires { ⌜ (at + 4 ≤ length (now out)) × (length (now s) ≤ 36864) ⌝ }
     ensures { λ _. ⌜ Within 0 (length (now (m .entry))) (now (m .entry)) (now (m .exit)) ⌝ }
     ensures { λ _. ⌜ Within to (length (now (out .entry))) (now (out .entry)) (now (out .exit)) ⌝ }
     ensures { λ r. ⌜ Looks (now (s .entry)) (now (label .entry)) at names to (now (m .entry)) (inputs from (leftOut mode (sender .mark))) (copyAt copy mode (sender .names)) (now (out .entry)) r (now (out .exit)) ⌝ }
@@ -149,7 +149,7 @@ fn taken(
     channel: &mut [u8],
     message: &mut [u8],
 ) -> Next
-    requires { ⌜ (at + 4 ≤ length (now out)) × (length (now s) ≤ 12288) ⌝ }
+    requires { ⌜ (at + 4 ≤ length (now out)) × (length (now s) ≤ 36864) ⌝ }
     ensures { λ _. ⌜ Within 0 (length (now (m .entry))) (now (m .entry)) (now (m .exit)) ⌝ }
     ensures { λ _. ⌜ Within to (length (now (out .entry))) (now (out .entry)) (now (out .exit)) ⌝ }
     ensures { λ _. ⌜ length (now (message .exit)) ≡ length (now (message .entry)) ⌝ }
@@ -206,7 +206,7 @@ fn pair(
     out: &mut [u8],
     message: &mut [u8],
 ) -> Next
-    requires { ⌜ (at + 4 ≤ length (now out)) × (length (now s) ≤ 12288) ⌝ }
+    requires { ⌜ (at + 4 ≤ length (now out)) × (length (now s) ≤ 36864) ⌝ }
     ensures { λ _. ⌜ Within 0 (length (now (m .entry))) (now (m .entry)) (now (m .exit)) ⌝ }
     ensures { λ _. ⌜ Within to (length (now (out .entry))) (now (out .entry)) (now (out .exit)) ⌝ }
     ensures { λ _. ⌜ length (now (message .exit)) ≡ length (now (message .entry)) ⌝ }
@@ -243,7 +243,7 @@ pub fn meet(
     out: &mut [u8],
     message: &mut [u8],
 ) -> Next
-    requires { ⌜ (at + 4 ≤ length (now out)) × (length (now s) ≤ 12288) ⌝ }
+    requires { ⌜ (at + 4 ≤ length (now out)) × (length (now s) ≤ 36864) ⌝ }
     ensures { λ _. ⌜ Within 0 (length (now (m .entry))) (now (m .entry)) (now (m .exit)) ⌝ }
     ensures { λ _. ⌜ Within to (length (now (out .entry))) (now (out .entry)) (now (out .exit)) ⌝ }
     ensures { λ _. ⌜ length (now (message .exit)) ≡ length (now (message .entry)) ⌝ }
@@ -278,7 +278,7 @@ fn onward(
     out: &mut [u8],
     message: &mut [u8],
 ) -> Next
-    requires { ⌜ (at + 4 ≤ length (now out)) × (length (now s) ≤ 12288) × (sender .mark ≤ length (now s)) ⌝ }
+    requires { ⌜ (at + 4 ≤ length (now out)) × (length (now s) ≤ 36864) × (sender .mark ≤ length (now s)) ⌝ }
     ensures { λ _. ⌜ Within 0 (length (now (m .entry))) (now (m .entry)) (now (m .exit)) ⌝ }
     ensures { λ _. ⌜ Within to (length (now (out .entry))) (now (out .entry)) (now (out .exit)) ⌝ }
     ensures { λ _. ⌜ length (now (message .exit)) ≡ length (now (message .entry)) ⌝ }

@@ -1,5 +1,6 @@
 -- What each walk comes to, from the positions of offers up. Assumes nothing.
 pub mod Located
+pub mod Last
 pub mod Increasing
 pub mod Block
 pub mod Pairs

@@ -43,7 +43,7 @@ pub struct Copies {
 
 // A copy of the repl thread at a position, if it has the position of a mark in it.
 fn within(s: &[u8], at: usize, mark: usize, opening: Opening) -> Opening
-    requires { ⌜ at < 12288 ⌝ }
+    requires { ⌜ at < 36864 ⌝ }
     ensures { λ r. ⌜ Decided Opening (now (s .entry)) at (within mark opening at) r ⌝ }
 {
     if place::holds(s, at + 1, mark) {
@@ -65,7 +65,7 @@ fn judge(own: Own, names: usize) -> Copies
 
 // An offer of a copy, if the repl thread does not have the mark in it.
 fn seek(s: &[u8], at: usize, quest: Quest, opens: usize) -> Opening
-    requires { ⌜ at < 12288 ⌝ }
+    requires { ⌜ at < 36864 ⌝ }
     ensures { λ r. ⌜ Decided Opening (now (s .entry)) at (seeking quest opens at) r ⌝ }
 {
     let but = quest.but;
@@ -92,7 +92,7 @@ fn target(quest: Quest, copies: CopyAt, opens: usize) -> Opening
 
 // The same, there or on the way to it.
 fn seek_in(s: &[u8], at: usize, quest: Quest, copies: CopyAt, opens: usize) -> Opening
-    requires { ⌜ at < 12288 ⌝ }
+    requires { ⌜ at < 36864 ⌝ }
     ensures { λ r. ⌜ Decided Opening (now (s .entry)) at (seekingIn quest copies opens at) r ⌝ }
 {
     let mark = copies.place;
@@ -109,7 +109,7 @@ fn seek_in(s: &[u8], at: usize, quest: Quest, copies: CopyAt, opens: usize) -> O
 
 // Whether neither the repl thread at a position nor one in its copy comes after a mark, or is the one at it.
 fn passes(s: &[u8], at: usize, mark: usize, past: bool) -> bool
-    requires { ⌜ at < 12288 ⌝ }
+    requires { ⌜ at < 36864 ⌝ }
     ensures { λ r. ⌜ Decided Bool (now (s .entry)) at (passes mark past at) r ⌝ }
 {
     if at + 1 == mark {
@@ -126,7 +126,7 @@ fn passes(s: &[u8], at: usize, mark: usize, past: bool) -> bool
 
 // The next repl thread after a mark, or the one at it: those in its copy first, and then itself.
 fn find(s: &[u8], at: usize, mark: usize, past: bool, opens: usize) -> Copies
-    requires { ⌜ at < 12288 ⌝ }
+    requires { ⌜ at < 36864 ⌝ }
     ensures { λ r. ⌜ Decided Copies (now (s .entry)) at (finding mark past opens at) r ⌝ }
 {
     if passes(s, at, mark, past) {
@@ -164,7 +164,7 @@ fn taken(plan: Plan, opens: usize) -> Opening
 
 // What is left of the copy that has the sender or the taker in it.
 fn build(s: &[u8], at: usize, plan: Plan, opens: usize) -> Opening
-    requires { ⌜ at < 12288 ⌝ }
+    requires { ⌜ at < 36864 ⌝ }
     ensures { λ r. ⌜ Decided Opening (now (s .entry)) at (builder plan opens at) r ⌝ }
 {
     let sender = plan.sender;
@@ -197,7 +197,7 @@ fn rebuilt(plan: Plan, copies: CopyAt, opens: usize) -> Copies
 
 // The same, there or on the way to it.
 fn build_in(s: &[u8], at: usize, plan: Plan, copies: CopyAt, opens: usize) -> Copies
-    requires { ⌜ at < 12288 ⌝ }
+    requires { ⌜ at < 36864 ⌝ }
     ensures { λ r. ⌜ Decided Copies (now (s .entry)) at (buildingIn plan copies opens at) r ⌝ }
 {
     let mark = copies.place;
@@ -218,7 +218,7 @@ fn build_in(s: &[u8], at: usize, plan: Plan, copies: CopyAt, opens: usize) -> Co
 
 // What a task does at the repl thread at a position, if names is the next private name.
 pub fn needed(s: &[u8], at: usize, task: Task, names: usize) -> Copies
-    requires { ⌜ at < 12288 ⌝ }
+    requires { ⌜ at < 36864 ⌝ }
     ensures { λ r. ⌜ Decided Copies (now (s .entry)) at (copiesAt task at names) r ⌝ }
 {
     match task {
@@ -251,7 +251,7 @@ pub fn needed(s: &[u8], at: usize, task: Task, names: usize) -> Copies
 
 // The repl thread itself, before its copies are opened.
 pub fn begin(m: &[u8], end: usize, at: usize, own: Own, out: &mut [u8], done: Progress) -> Progress
-    requires { ⌜ (end ≤ length (now m)) × (at < 12288) ⌝ }
+    requires { ⌜ (end ≤ length (now m)) × (at < 36864) ⌝ }
     ensures { λ r. ⌜ Extends done r ⌝ }
     ensures { λ _. ⌜ Within (done .state .end) (length (now (out .entry))) (now (out .entry)) (now (out .exit)) ⌝ }
     ensures { λ r. ⌜ Begins own (now (m .entry)) end at (now (out .entry)) done r (now (out .exit)) ⌝ }
@@ -266,7 +266,7 @@ pub fn begin(m: &[u8], end: usize, at: usize, own: Own, out: &mut [u8], done: Pr
 
 // The repl thread itself, after what is done in its copies, if the walk still goes on.
 pub fn finish(m: &[u8], end: usize, at: usize, own: Own, out: &mut [u8], done: Progress) -> Progress
-    requires { ⌜ (end ≤ length (now m)) × (at < 12288) ⌝ }
+    requires { ⌜ (end ≤ length (now m)) × (at < 36864) ⌝ }
     ensures { λ r. ⌜ Extends done r ⌝ }
     ensures { λ _. ⌜ Within (done .state .end) (length (now (out .entry))) (now (out .entry)) (now (out .exit)) ⌝ }
     ensures { λ r. ⌜ Finishes own (now (m .entry)) end at (now (out .entry)) done r (now (out .exit)) ⌝ }

@@ -14,7 +14,7 @@ use Rattle.moves.specs.Spot.{Spot, recordAt, offersOf, copiesOf}
 use Rattle.moves.specs.Moves.{Move, alone}
 use Rattle.moves.specs.Outcome.{boundAfter, lastOf, outcome}
 use Rattle.forms.specs.Visit.{Labelled}
-use Rattle.ways.specs.Reach.{countOf}
+use Rattle.walks.specs.Count.{countOf}
 use Rattle.moves.specs.CopyOffers.{ThreadAt, Later, copyOffers, takersAt, butOf, jointWith}
 use Rattle.moves.specs.Step.{actor, stepOf}
 use Rattle.moves.specs.Held.{Held}
@@ -22,8 +22,8 @@ use Rattle.moves.specs.Moving.{Moving, Leading}
 use Rattle.moves.specs.declared.step.Step as step
 use Rattle.moves.specs.declared.step.Actor.{Actor}
 use Rattle.moves.specs.declared.step.Label.the-variants.{Silent}
-use Rattle.ways.specs.declared.count.Counted.{Counted}
-use Rattle.ways.specs.declared.count.Counted.the-variants as counted
+use Rattle.walks.specs.declared.count.Counted.{Counted}
+use Rattle.walks.specs.declared.count.Counted.the-variants as counted
 use Rattle.rests.specs.declared.names.Rests.{Rests}
 use Rattle.rests.specs.declared.names.Rests.the-variants.{At, OverLimit}
 

@@ -5,7 +5,7 @@ use moves::step::Label;
 use moves::step::Step;
 use states::state::State;
 use threads::task::CopyAt;
-use ways::count::Counted;
+use walks::count::Counted;
 ghost use mathlib.Core.Path.{_≡_};
 ghost use Prim.Native.Nat.{_≤_};
 ghost use lib.ListN.{length};
@@ -25,11 +25,10 @@ pub fn rest_names(
     step: Step,
     message: &[u8],
     m: &mut [u8],
-    out: &mut [u8],
+    out: &[u8],
 ) -> Rests
-    requires { ⌜ (length (now s) ≤ 12288) × (state .end ≤ length (now out)) ⌝ }
+    requires { ⌜ (length (now s) ≤ 36864) × (state .end ≤ length (now out)) ⌝ }
     ensures { λ _. ⌜ Within 0 (length (now (m .entry))) (now (m .entry)) (now (m .exit)) ⌝ }
-    ensures { λ _. ⌜ Within (state .end) (length (now (out .entry))) (now (out .entry)) (now (out .exit)) ⌝ }
     ensures { λ r. ⌜ Settles (now (s .entry)) state step (now (message .entry)) (now (m .entry)) (now (out .entry)) r ⌝ }
 {
     let label = step.label;
@@ -49,11 +48,10 @@ fn silent_names(
     step: Step,
     message: &[u8],
     m: &mut [u8],
-    out: &mut [u8],
+    out: &[u8],
 ) -> Rests
-    requires { ⌜ (length (now s) ≤ 12288) × (state .end ≤ length (now out)) ⌝ }
+    requires { ⌜ (length (now s) ≤ 36864) × (state .end ≤ length (now out)) ⌝ }
     ensures { λ _. ⌜ Within 0 (length (now (m .entry))) (now (m .entry)) (now (m .exit)) ⌝ }
-    ensures { λ _. ⌜ Within (state .end) (length (now (out .entry))) (now (out .entry)) (now (out .exit)) ⌝ }
     ensures { λ r. ⌜ SettlesSilent (now (s .entry)) state step (now (message .entry)) (now (m .entry)) (now (out .entry)) r ⌝ }
 {
     let sender = step.sender;
@@ -92,11 +90,10 @@ fn after(
     names: usize,
     message: &[u8],
     m: &mut [u8],
-    out: &mut [u8],
+    out: &[u8],
 ) -> Counted
-    requires { ⌜ (length (now s) ≤ 12288) × (state .end ≤ length (now out)) ⌝ }
+    requires { ⌜ (length (now s) ≤ 36864) × (state .end ≤ length (now out)) ⌝ }
     ensures { λ _. ⌜ Within 0 (length (now (m .entry))) (now (m .entry)) (now (m .exit)) ⌝ }
-    ensures { λ _. ⌜ Within (state .end) (length (now (out .entry))) (now (out .entry)) (now (out .exit)) ⌝ }
     ensures { λ r. ⌜ CountsActor (now (s .entry)) state actor (state .names) names (now (message .entry)) (now (m .entry)) (now (out .entry)) r ⌝ }
 {
     let at = actor.at;
@@ -106,17 +103,7 @@ fn after(
     if state.end - 4 < at {
         return Counted::OverLimit;
     }
-    numbers::count(
-        s,
-        message,
-        at,
-        state.names,
-        state.end,
-        m,
-        actor.mark,
-        names,
-        out,
-    )
+    numbers::count(s, message, at, state.names, m, actor.mark, names, out)
 }
 
 // The copies in which the taker of a silent step is, if that is in the thread of the sender.
@@ -139,11 +126,10 @@ fn after_taker(
     names: usize,
     message: &[u8],
     m: &mut [u8],
-    out: &mut [u8],
+    out: &[u8],
 ) -> Counted
-    requires { ⌜ (length (now s) ≤ 12288) × (state .end ≤ length (now out)) ⌝ }
+    requires { ⌜ (length (now s) ≤ 36864) × (state .end ≤ length (now out)) ⌝ }
     ensures { λ _. ⌜ Within 0 (length (now (m .entry))) (now (m .entry)) (now (m .exit)) ⌝ }
-    ensures { λ _. ⌜ Within (state .end) (length (now (out .entry))) (now (out .entry)) (now (out .exit)) ⌝ }
     ensures { λ r. ⌜ CountsTaker (now (s .entry)) state step names (now (message .entry)) (now (m .entry)) (now (out .entry)) r ⌝ }
 {
     let sender = step.sender;
@@ -157,24 +143,13 @@ fn after_taker(
         return Counted::OverLimit;
     }
     if mode == 0 {
-        return numbers::count(
-            s,
-            message,
-            at,
-            sender.next,
-            state.end,
-            m,
-            taker.mark,
-            names,
-            out,
-        );
+        return numbers::count(s, message, at, sender.next, m, taker.mark, names, out);
     }
     numbers::count_in(
         s,
         message,
         at,
         state.names,
-        state.end,
         m,
         copies(step),
         taker.mark,

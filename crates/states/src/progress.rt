@@ -48,7 +48,7 @@ pub fn named(done: Progress, names: usize) -> Progress
 
 // The thread at a position was found, and hands over nothing.
 pub fn hit(done: Progress, at: usize, names: usize) -> Progress
-    requires { ⌜ at < 12288 ⌝ }
+    requires { ⌜ at < 36864 ⌝ }
     ensures { λ r. ⌜ Hits done at names r ⌝ }
 {
     let state = done.state;

@@ -36,7 +36,7 @@ pub fn push(m: &[u8], end: usize, place: usize, out: &mut [u8], done: Progress) 
 
 // The thread at a position, written after what else is left of it, if the walk still goes on.
 pub fn keep(m: &[u8], end: usize, at: usize, out: &mut [u8], done: Progress) -> Progress
-    requires { ⌜ (end ≤ length (now m)) × (at < 12288) ⌝ }
+    requires { ⌜ (end ≤ length (now m)) × (at < 36864) ⌝ }
     ensures { λ r. ⌜ Extends done r ⌝ }
     ensures { λ _. ⌜ Within (done .state .end) (length (now (out .entry))) (now (out .entry)) (now (out .exit)) ⌝ }
     ensures { λ r. ⌜ Keeps (now (m .entry)) end at (now (out .entry)) done r (now (out .exit)) ⌝ }

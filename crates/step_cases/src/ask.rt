@@ -11,7 +11,7 @@ use successors::lead;
 ghost use Prim.Native.Nat.{_≤_};
 
 // The longest model with its index, and the most steps of a label that are counted.
-const MODEL: usize = 12288;
+const MODEL: usize = 36864;
 
 const STEPS: usize = 4096;
 
@@ -21,7 +21,8 @@ pub(crate) enum Led {
     Nowhere,
 }
 
-// The step after one of a state. The message that is sent is written to the front of a slice.
+// The step after one of a state. The message that is sent is written to the front of a slice, and the channel of a silent step of two threads
+// to the front of another; both slices stay from one step to the next.
 fn step_after(
     s: &[u8],
     state: State,
@@ -29,6 +30,7 @@ fn step_after(
     channel: &[u8],
     m: &mut [u8],
     out: &mut [u8],
+    held: &mut [u8],
     message: &mut [u8],
 ) -> Next {
     if MODEL < s.len() {
@@ -37,20 +39,7 @@ fn step_after(
     if out.len() < state.end {
         return Next::None;
     }
-    next::next(s, state, step, channel, m, out, message)
-}
-
-// The same, without the message.
-fn only_step_after(
-    s: &[u8],
-    state: State,
-    step: Step,
-    channel: &[u8],
-    m: &mut [u8],
-    out: &mut [u8],
-) -> Next {
-    let mut message = [0u8; MESSAGE];
-    step_after(s, state, step, channel, m, out, &mut message)
+    next::next(s, state, step, channel, m, out, held, message)
 }
 
 // Where a step leads, whose message is given.
@@ -61,7 +50,7 @@ fn led_by(s: &[u8], state: State, step: Step, message: &[u8], m: &mut [u8], out:
     if out.len() < state.end {
         return Led::Nowhere;
     }
-    Led::To(step, lead::lead(s, state, step, message, m, out))
+    Led::To(step, lead::lead(s, state, step, message, false, m, out))
 }
 
 // The step after one of a state, and where it leads. The channel and, for an input, the message of its label are given.
@@ -73,14 +62,15 @@ pub(crate) fn led_after(
     taken: &[u8],
     m: &mut [u8],
     out: &mut [u8],
+    held: &mut [u8],
+    message: &mut [u8],
 ) -> Led {
-    let mut message = [0u8; MESSAGE];
-    match step_after(s, state, step, channel, m, out, &mut message) {
+    match step_after(s, state, step, channel, m, out, held, message) {
         Next::Found(found) => {
             let label = found.label;
             match label {
                 Label::Input => led_by(s, state, found, taken, m, out),
-                _ => led_by(s, state, found, text::part(&message, 0, found.size), m, out),
+                _ => led_by(s, state, found, text::part(message, 0, found.size), m, out),
             }
         }
         Next::None => Led::Nowhere,
@@ -99,9 +89,11 @@ pub(crate) fn count(
     ensures { λ r. ⌜ r ≤ 4096 ⌝ }
 {
     let mut step = next::before(kind, state);
+    let mut held = [0u8; MESSAGE];
+    let mut message = [0u8; MESSAGE];
     let mut n = 0;
     while n < STEPS {
-        match only_step_after(s, state, step, channel, m, out) {
+        match step_after(s, state, step, channel, m, out, &mut held, &mut message) {
             Next::Found(found) => {
                 step = found;
             }

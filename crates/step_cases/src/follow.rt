@@ -20,7 +20,7 @@ const LEVELS: usize = 16;
 
 // Writes the start state of a model, which is put into a slice with its index, and follows the labels from it.
 pub(crate) fn start(model: &[u8], s: &mut [u8], labels: &[u8], m: &mut [u8], out: &mut [u8])
-    requires { ⌜ (length (now model) ≤ 4096) × (length (now s) ≡ 12288) × (10750 ≤ length (now m)) × (3964 ≤ length (now out)) ⌝ }
+    requires { ⌜ (length (now model) ≤ 4096) × (length (now s) ≡ 36864) × (10750 ≤ length (now m)) × (3964 ≤ length (now out)) ⌝ }
 {
     index::build(model, s);
     arrive(s, labels, 0, LEVELS, 0, form::start(s, m, out, 0), m, out);
@@ -171,7 +171,7 @@ fn follow_all(
     );
 }
 
-// Follows so many steps of a label.
+// Follows so many steps of a label. What a step sends, and the channel of a silent step of two threads, stay from one step to the next.
 fn follow_steps(
     s: &[u8],
     labels: &[u8],
@@ -189,6 +189,8 @@ fn follow_steps(
     requires { ⌜ (left ≤ 16) × (n ≤ 4096) ⌝ }
 {
     let mut step = next::before(kind, state);
+    let mut held = [0u8; MESSAGE];
+    let mut message = [0u8; MESSAGE];
     let mut done = 0;
     while done < n {
         step = follow_step(
@@ -203,6 +205,8 @@ fn follow_steps(
             taken,
             m,
             out,
+            &mut held,
+            &mut message,
         );
         done += 1;
     }
@@ -221,10 +225,12 @@ fn follow_step(
     taken: &[u8],
     m: &mut [u8],
     out: &mut [u8],
+    held: &mut [u8],
+    message: &mut [u8],
 ) -> Step
     requires { ⌜ left ≤ 16 ⌝ }
 {
-    match ask::led_after(s, state, step, channel, taken, m, out) {
+    match ask::led_after(s, state, step, channel, taken, m, out, held, message) {
         Led::To(found, formed) => {
             arrive(s, labels, next, left, known, formed, m, out);
             found

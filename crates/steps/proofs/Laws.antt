@@ -1,4 +1,5 @@
 -- The laws by which the functions meet their contracts. Assumes nothing.
+pub mod Kept
 pub mod BetweenLists
 pub mod BetweenOffers
 pub mod BetweenSought
@@ -7,3 +8,4 @@ pub mod BetweenOnward
 pub mod BetweenMoves
 pub mod Next
 pub mod Silent
+pub mod SilentLater

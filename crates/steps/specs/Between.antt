@@ -5,7 +5,6 @@ use mathlib.Core.List.{List, [], _∷_, _++_, map, flatMap}
 use Prim.Native.Nat.{ℕ, _+_, _≤_, _<_}
 use lib.ListN.{length}
 use Rattle.meaning.specs.Messages.Term.{leaf, public, Message}
-use Rattle.meaning.specs.Bytes.Standing.{Stands}
 use Rattle.meaning.specs.Steps.State.{worked}
 use Rattle.nodes.specs.Encoding.{encodeMessage}
 use Rattle.states.specs.Record.{Placed, encodeRecords}
@@ -21,7 +20,9 @@ use Rattle.moves.specs.Outcome.{same}
 use Rattle.offers.specs.Seek.{Sight, unseen, seen, afresh, Sees, ShowsSight}
 use Rattle.moves.specs.CopyOffers.{outputs, inputs, channelOf}
 use Rattle.moves.specs.CopyMoves.{laterSpots, Roomy}
-use Rattle.moves.specs.Step.{Shown}
+use Rattle.moves.specs.Step.{actor}
+use Rattle.moves.specs.declared.step.Actor.{Actor}
+use Rattle.steps.specs.Kept.{Kept, Answered}
 use Rattle.offers.specs.declared.seek.Sighting.{Sighting}
 use Rattle.moves.specs.declared.step.Next.{Next}
 
@@ -50,14 +51,9 @@ meetingOf w u = between (w .spot) (u .spot) (record { sender = w .offer; taker =
 unfoldable pub takersFrom : (sender : Party) → (y : ℕ) → List Spot → List Move
 takersFrom w y qs = map (meetingOf w) (partiesFrom (inputs y 0) (channelOf (w .offer)) (offeredTo w) qs)
 
--- The meetings of the first of these senders with the takers among ts from y on, and of the others with all takers.
-unfoldable pub meetingsFrom : (qs ts : List Spot) → (y : ℕ) → (senders : List Party) → List Move
-meetingsFrom qs ts y [] = []
-meetingsFrom qs ts y (w ∷ others) = takersFrom w y ts ++ meetingsFrom qs qs 0 others
-
--- What is left: senders among ps from x on, the first with its takers among ts from y on. All threads are qs.
-unfoldable pub betweenFrom : (qs : List Spot) → (k : ℕ) → (ps : List Spot) → (x : ℕ) → (ts : List Spot) → (y : ℕ) → List Move
-betweenFrom qs k ps x ts y = meetingsFrom qs ts y (sendersFrom k x ps)
+-- The meetings of the senders among ps, in the first thread from the position x on, with all takers. All threads are qs.
+unfoldable pub betweenFrom : (qs : List Spot) → (k : ℕ) → (ps : List Spot) → (x : ℕ) → List Move
+betweenFrom qs k ps x = flatMap (λ w. takersFrom w 0 qs) (sendersFrom k x ps)
 
 -- The first of these parties, as a walk over records from start on sees it.
 abbrev pub sightOf : (start : ℕ) → List Party → Sight
@@ -81,48 +77,53 @@ pub record Sends (s : List ℕ) (at k to : ℕ) (m : List ℕ) (x : ℕ) (out : 
   pub exact : (start : ℕ) (ls ts : List Placed) {message : List ℕ} → Threads s out at k ts to → Roomy s out m message k to
       → at ≡ start + length (encodeRecords ls) → ShowsSight after r (sightOf start (sendersFrom k x (spotsFrom ls ts)))
 
--- One sender, found already among the threads ts, and its takers among ts′ from y on; all threads are ps. The label is the sender's channel,
--- and what it sends stands somewhere and takes so many bytes.
-pub record Takes (s label : List ℕ) (to : ℕ) (m : List ℕ) (now : Sighting) (taker y : ℕ) (out : List ℕ) (size : ℕ) (r : Next) : Type 0 where
-  pub exact : (start k x : ℕ) (ps ls ts ls′ ts′ : List Placed) (w : Party) (others : List Party) (said message : List ℕ)
+-- One sender of the threads ts, and its takers among ts′ from y on; all threads are ps. The label is the sender's channel, and it stands at
+-- the front of a slice; what it sends takes so many bytes and stands at the front of another.
+pub record Takes (s label : List ℕ) (to : ℕ) (m : List ℕ) (now : Actor) (taker y : ℕ) (out : List ℕ) (size : ℕ) (r : Next) : Type 0 where
+  pub exact : (start k x : ℕ) (ps ls ts ls′ ts′ : List Placed) (w : Party) (others : List Party) (channel said message : List ℕ)
       → Threads s out start k ps to → Roomy s out m message k to → ps ≡ ls ++ ts → ps ≡ ls′ ++ ts′
       → taker ≡ start + length (encodeRecords ls′) → sendersFrom k x (spotsFrom ls ts) ≡ w ∷ others
-      → Sees out now (recordAt start (w .spot)) (w .offer) → Labelled label (channelOf (w .offer))
-      → Stands said 0 (encodeMessage (worked (w .offer .bound) (messageOf (w .offer .prefix)))) size
-      → Shown start said r (takersFrom w y (spotsFrom ls′ ts′))
+      → now ≡ actor start (w .spot) (w .offer) → Labelled label (channelOf (w .offer))
+      → size ≡ length (encodeMessage (worked (w .offer .bound) (messageOf (w .offer .prefix))))
+      → ((u : Party) → Kept channel said (meetingOf w u)) → Answered start channel said r (takersFrom w y (spotsFrom ls′ ts′))
 
--- The same, where channel and message stand behind the state.
-pub record Pairs (s : List ℕ) (to : ℕ) (m : List ℕ) (now : Sighting) (taker y : ℕ) (out : List ℕ) (message : List ℕ) (r : Next) (said : List ℕ)
-    : Type 0 where
-  pub exact : (start k x : ℕ) (ps ls ts ls′ ts′ : List Placed) (w : Party) (others : List Party) → Threads s out start k ps to
-      → Roomy s out m message k to → ps ≡ ls ++ ts → ps ≡ ls′ ++ ts′ → taker ≡ start + length (encodeRecords ls′)
-      → sendersFrom k x (spotsFrom ls ts) ≡ w ∷ others → Sees out now (recordAt start (w .spot)) (w .offer)
-      → Shown start said r (takersFrom w y (spotsFrom ls′ ts′))
+-- A sender that was found, and all its takers: channel and message are copied from behind the state to two slices.
+pub record Pairs (s : List ℕ) (start to : ℕ) (m : List ℕ) (now : Sighting) (out channel message : List ℕ) (r : Next) (on said : List ℕ) : Type 0 where
+  pub exact : (k x : ℕ) (ps ls ts : List Placed) (w : Party) (others : List Party) → Threads s out start k ps to
+      → Roomy s out m message k to → 510 ≤ length channel → ps ≡ ls ++ ts → sendersFrom k x (spotsFrom ls ts) ≡ w ∷ others
+      → Sees out now (recordAt start (w .spot)) (w .offer) → Answered start on said r (takersFrom w 0 (spots ps))
 
 -- The same, and then the senders after it with all their takers.
-pub record Onward (s : List ℕ) (start k to : ℕ) (m : List ℕ) (now : Sighting) (taker y : ℕ) (out : List ℕ) (message : List ℕ) (r : Next)
-    (said : List ℕ) : Type 0 where
-  pub exact : (x : ℕ) (ps ls ts ls′ ts′ : List Placed) (w : Party) (others : List Party) → Threads s out start k ps to
-      → Roomy s out m message k to → ps ≡ ls ++ ts → ps ≡ ls′ ++ ts′ → taker ≡ start + length (encodeRecords ls′)
-      → sendersFrom k x (spotsFrom ls ts) ≡ w ∷ others → Sees out now (recordAt start (w .spot)) (w .offer)
-      → Shown start said r (meetingsFrom (spots ps) (spotsFrom ls′ ts′) y (w ∷ others))
+pub record Onward (s : List ℕ) (start k to : ℕ) (m : List ℕ) (now : Sighting) (out channel message : List ℕ) (r : Next) (on said : List ℕ) : Type 0
+  where
+    pub exact : (x : ℕ) (ps ls ts : List Placed) (w : Party) (others : List Party) → Threads s out start k ps to
+        → Roomy s out m message k to → 510 ≤ length channel → ps ≡ ls ++ ts → sendersFrom k x (spotsFrom ls ts) ≡ w ∷ others
+        → Sees out now (recordAt start (w .spot)) (w .offer)
+        → Answered start on said r (flatMap (λ v. takersFrom v 0 (spots ps)) (w ∷ others))
 
--- Whatever threads ps stand from start on: the answer is the first of what is left, senders among ts from x on, takers among ts′ from y on.
-pub record Betweens (s : List ℕ) (start at k to : ℕ) (m : List ℕ) (x taker y : ℕ) (out : List ℕ) (message : List ℕ) (r : Next) (said : List ℕ)
-    : Type 0 where
-  pub exact : (ps ls ts ls′ ts′ : List Placed) → Threads s out start k ps to → Roomy s out m message k to → ps ≡ ls ++ ts
-      → at ≡ start + length (encodeRecords ls) → ps ≡ ls′ ++ ts′ → taker ≡ start + length (encodeRecords ls′)
-      → Shown start said r (betweenFrom (spots ps) k (spotsFrom ls ts) x (spotsFrom ls′ ts′) y)
+-- Whatever threads ps stand from start on: the answer is the first of what is left, senders among ts from x on.
+pub record Betweens (s : List ℕ) (start at k to : ℕ) (m : List ℕ) (x : ℕ) (out channel message : List ℕ) (r : Next) (on said : List ℕ) : Type 0
+  where
+    pub exact : (ps ls ts : List Placed) → Threads s out start k ps to → Roomy s out m message k to → 510 ≤ length channel
+        → ps ≡ ls ++ ts → at ≡ start + length (encodeRecords ls)
+        → Answered start on said r (betweenFrom (spots ps) k (spotsFrom ls ts) x)
+
+-- A meeting of the threads ps: its sender is the first one from its own place on, and what comes after the meeting are those of this sender with
+-- the takers behind its own, and then those of the senders after it.
+pub record Resumed (k : ℕ) (ps : List Placed) (after : List Move) (p q : Spot) (v : Pair) : Type 0 where
+  pub sending : ps ≡ p .before ++ (p .thread ∷ p .behind)
+  pub taking : ps ≡ q .before ++ (q .thread ∷ q .behind)
+  pub others : List Party
+  pub again : sendersFrom k (v .sender .place) (p ∷ laterSpots p) ≡ record { spot = p; offer = v .sender } ∷ others
+  pub left : takersFrom (record { spot = p; offer = v .sender }) (v .taker .place + 1) (q ∷ laterSpots q)
+      ++ betweenFrom (spots ps) k (p ∷ laterSpots p) (v .sender .place + 1) ≡ after
 
 -- The meetings of the definitions are those from the beginning on; what is left behind one of them is what comes after it. The proofs are in
 -- proofs/Laws/BetweenMoves.antt, under the same names with a small first letter.
 abbrev pub BetweenAll : Type 0
-BetweenAll =
-    (k : ℕ) (ps : List Placed) → flatMap (meetings k (spots ps)) (spots ps) ≡ betweenFrom (spots ps) k (spots ps) 0 (spots ps) 0
+BetweenAll = (k : ℕ) (ps : List Placed) → flatMap (meetings k (spots ps)) (spots ps) ≡ betweenFrom (spots ps) k (spots ps) 0
 
 abbrev pub BetweenResumed : Type 0
 BetweenResumed =
     (k : ℕ) (ps : List Placed) (before after : List Move) (p q : Spot) (v : Pair)
-    → flatMap (meetings k (spots ps)) (spots ps) ≡ before ++ (between p q v ∷ after)
-    → (ps ≡ p .before ++ (p .thread ∷ p .behind)) × (ps ≡ q .before ++ (q .thread ∷ q .behind))
-    × (betweenFrom (spots ps) k (p ∷ laterSpots p) (v .sender .place) (q ∷ laterSpots q) (v .taker .place + 1) ≡ after)
+    → flatMap (meetings k (spots ps)) (spots ps) ≡ before ++ (between p q v ∷ after) → Resumed k ps after p q v

@@ -42,7 +42,7 @@ fn sender(
     x: usize,
     out: &mut [u8],
 ) -> Sighting
-    requires { ⌜ (length (now s) ≤ 12288) × (to ≤ length (now out)) ⌝ }
+    requires { ⌜ (length (now s) ≤ 36864) × (to ≤ length (now out)) ⌝ }
     ensures { λ _. ⌜ Within 0 (length (now (m .entry))) (now (m .entry)) (now (m .exit)) ⌝ }
     ensures { λ _. ⌜ Within to (length (now (out .entry))) (now (out .entry)) (now (out .exit)) ⌝ }
     ensures { λ r. ⌜ Sends (now (s .entry)) at names to (now (m .entry)) x (now (out .entry)) r (now (out .exit)) ⌝ }
@@ -66,25 +66,23 @@ fn sender(
     )
 }
 
-// The first taker, from a record and a position in it on, of a message of so many bytes that the sender that was found sends on a channel.
-fn take(
+// The first taker, from a record and a position in it on, of a message of so many bytes that a sender sends on a channel.
+pub(crate) fn take(
     s: &[u8],
     channel: &[u8],
     to: usize,
     m: &mut [u8],
-    sender: Sighting,
+    sender: Actor,
     taker: usize,
     y: usize,
     out: &mut [u8],
     size: usize,
 ) -> Next
-    requires { ⌜ (length (now s) ≤ 12288) × (to ≤ length (now out)) ⌝ }
+    requires { ⌜ (length (now s) ≤ 36864) × (to ≤ length (now out)) ⌝ }
     ensures { λ _. ⌜ Within 0 (length (now (m .entry))) (now (m .entry)) (now (m .exit)) ⌝ }
     ensures { λ _. ⌜ Within to (length (now (out .entry))) (now (out .entry)) (now (out .exit)) ⌝ }
     ensures { λ r. ⌜ Takes (now (s .entry)) (now (channel .entry)) to (now (m .entry)) sender taker y (now (out .entry)) size r ⌝ }
 {
-    let at = sender.at;
-    let next = sender.done.names;
     let found = seek::seek(
         s,
         channel,
@@ -97,8 +95,8 @@ fn take(
             from: y,
             but: 0,
         },
-        at,
-        next,
+        sender.at,
+        sender.next,
         out,
     );
     if found.done.mark == 0 {
@@ -108,11 +106,7 @@ fn take(
         label: Label::Silent,
         mode: 0,
         copy: 0,
-        sender: Actor {
-            at: at,
-            mark: sender.done.mark,
-            next: next,
-        },
+        sender: sender,
         taker: Actor {
             at: found.at,
             mark: found.done.mark,
@@ -122,41 +116,46 @@ fn take(
     })
 }
 
-// The same, where the channel and the message stand behind the state.
+// The first taker of what a sender sends that was found: its channel and its message are copied to the fronts of two slices, where they stay.
 fn pair(
     s: &[u8],
+    start: usize,
     to: usize,
     m: &mut [u8],
     sender: Sighting,
-    taker: usize,
-    y: usize,
     out: &mut [u8],
+    channel: &mut [u8],
     message: &mut [u8],
 ) -> Next
-    requires { ⌜ (length (now s) ≤ 12288) × (to ≤ length (now out)) ⌝ }
+    requires { ⌜ (length (now s) ≤ 36864) × (to ≤ length (now out)) ⌝ }
     ensures { λ _. ⌜ Within 0 (length (now (m .entry))) (now (m .entry)) (now (m .exit)) ⌝ }
     ensures { λ _. ⌜ Within to (length (now (out .entry))) (now (out .entry)) (now (out .exit)) ⌝ }
+    ensures { λ _. ⌜ length (now (channel .exit)) ≡ length (now (channel .entry)) ⌝ }
     ensures { λ _. ⌜ length (now (message .exit)) ≡ length (now (message .entry)) ⌝ }
-    ensures { λ r. ⌜ Pairs (now (s .entry)) to (now (m .entry)) sender taker y (now (out .entry)) (now (message .entry)) r (now (message .exit)) ⌝ }
+    ensures { λ r. ⌜ Pairs (now (s .entry)) start to (now (m .entry)) sender (now (out .entry)) (now (channel .entry)) (now (message .entry)) r (now (channel .exit)) (now (message .exit)) ⌝ }
 {
-    let mut channel: [u8; 510] = [0; 510];
-    let handed = hand::hand(out, sender.done.sent, &mut channel[0..510], message);
+    let handed = hand::hand(out, sender.done.sent, channel, message);
     let long = handed.channel;
+    let next = sender.done.names;
     take(
         s,
         &channel[0..long],
         to,
         m,
-        sender,
-        taker,
-        y,
+        Actor {
+            at: sender.at,
+            mark: sender.done.mark,
+            next: next,
+        },
+        start,
+        0,
         out,
         handed.message,
     )
 }
 
 // The first pair of a sender and a taker in different threads of the state whose records stand from start to another position: senders from
-// the record at the position at on, in it from x on; of the first sender takers from the record at the position taker on, in it from y on.
+// the record at the position at on, in it from x on.
 pub fn between(
     s: &[u8],
     start: usize,
@@ -165,20 +164,20 @@ pub fn between(
     to: usize,
     m: &mut [u8],
     x: usize,
-    taker: usize,
-    y: usize,
     out: &mut [u8],
+    channel: &mut [u8],
     message: &mut [u8],
 ) -> Next
-    requires { ⌜ (length (now s) ≤ 12288) × (to ≤ length (now out)) ⌝ }
+    requires { ⌜ (length (now s) ≤ 36864) × (to ≤ length (now out)) ⌝ }
     ensures { λ _. ⌜ Within 0 (length (now (m .entry))) (now (m .entry)) (now (m .exit)) ⌝ }
     ensures { λ _. ⌜ Within to (length (now (out .entry))) (now (out .entry)) (now (out .exit)) ⌝ }
+    ensures { λ _. ⌜ length (now (channel .exit)) ≡ length (now (channel .entry)) ⌝ }
     ensures { λ _. ⌜ length (now (message .exit)) ≡ length (now (message .entry)) ⌝ }
-    ensures { λ r. ⌜ Betweens (now (s .entry)) start at names to (now (m .entry)) x taker y (now (out .entry)) (now (message .entry)) r (now (message .exit)) ⌝ }
+    ensures { λ r. ⌜ Betweens (now (s .entry)) start at names to (now (m .entry)) x (now (out .entry)) (now (channel .entry)) (now (message .entry)) r (now (channel .exit)) (now (message .exit)) ⌝ }
 {
     let found = sender(s, at, names, to, m, x, out);
     if follows(at, x, to, s.len(), found.at, found.done.mark) {
-        return onward(s, start, names, to, m, found, taker, y, out, message);
+        return onward(s, start, names, to, m, found, out, channel, message);
     }
     Next::None
 }
@@ -191,21 +190,21 @@ fn onward(
     to: usize,
     m: &mut [u8],
     sender: Sighting,
-    taker: usize,
-    y: usize,
     out: &mut [u8],
+    channel: &mut [u8],
     message: &mut [u8],
 ) -> Next
-    requires { ⌜ (length (now s) ≤ 12288) × (to ≤ length (now out)) ⌝ }
+    requires { ⌜ (length (now s) ≤ 36864) × (to ≤ length (now out)) ⌝ }
     ensures { λ _. ⌜ Within 0 (length (now (m .entry))) (now (m .entry)) (now (m .exit)) ⌝ }
     ensures { λ _. ⌜ Within to (length (now (out .entry))) (now (out .entry)) (now (out .exit)) ⌝ }
+    ensures { λ _. ⌜ length (now (channel .exit)) ≡ length (now (channel .entry)) ⌝ }
     ensures { λ _. ⌜ length (now (message .exit)) ≡ length (now (message .entry)) ⌝ }
-    ensures { λ r. ⌜ Onward (now (s .entry)) start names to (now (m .entry)) sender taker y (now (out .entry)) (now (message .entry)) r (now (message .exit)) ⌝ }
+    ensures { λ r. ⌜ Onward (now (s .entry)) start names to (now (m .entry)) sender (now (out .entry)) (now (channel .entry)) (now (message .entry)) r (now (channel .exit)) (now (message .exit)) ⌝ }
 {
     let at = sender.at;
     let mark = sender.done.mark;
-    match pair(s, to, m, sender, taker, y, out, message) {
+    match pair(s, start, to, m, sender, out, channel, message) {
         Next::Found(step) => Next::Found(step),
-        Next::None => between(s, start, at, names, to, m, mark, start, 0, out, message),
+        Next::None => between(s, start, at, names, to, m, mark, out, channel, message),
     }
 }

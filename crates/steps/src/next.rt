@@ -47,7 +47,8 @@ pub fn before(label: Label, state: State) -> Step
     }
 }
 
-// The step after one of a label, whose channel's run is given. The message that is sent is written to the front of a slice.
+// The step after one of a label, whose channel's run is given. The message that is sent is written to the front of a slice, and the channel of
+// a silent step of two threads to the front of another; there they are looked for when the step comes back.
 pub fn next(
     s: &[u8],
     state: State,
@@ -55,18 +56,20 @@ pub fn next(
     channel: &[u8],
     m: &mut [u8],
     out: &mut [u8],
+    held: &mut [u8],
     message: &mut [u8],
 ) -> Next
-    requires { ⌜ (length (now s) ≤ 12288) × (state .end ≤ length (now out)) ⌝ }
+    requires { ⌜ (length (now s) ≤ 36864) × (state .end ≤ length (now out)) ⌝ }
     ensures { λ _. ⌜ Within 0 (length (now (m .entry))) (now (m .entry)) (now (m .exit)) ⌝ }
     ensures { λ _. ⌜ Within (state .end) (length (now (out .entry))) (now (out .entry)) (now (out .exit)) ⌝ }
+    ensures { λ _. ⌜ length (now (held .exit)) ≡ length (now (held .entry)) ⌝ }
     ensures { λ _. ⌜ length (now (message .exit)) ≡ length (now (message .entry)) ⌝ }
-    ensures { λ r. ⌜ Nexts (now (s .entry)) (now (channel .entry)) state step (now (m .entry)) (now (out .entry)) (now (message .entry)) r (now (message .exit)) ⌝ }
+    ensures { λ r. ⌜ Nexts (now (s .entry)) (now (channel .entry)) state step (now (m .entry)) (now (out .entry)) (now (held .entry)) (now (message .entry)) r (now (held .exit)) (now (message .exit)) ⌝ }
 {
     let label = step.label;
     match label {
         Label::Output => labelled::next(s, state, step, channel, m, out, message),
         Label::Input => labelled::next(s, state, step, channel, m, out, message),
-        Label::Silent => silent::next(s, state, step, m, out, message),
+        Label::Silent => silent::next(s, state, step, m, out, held, message),
     }
 }

@@ -3,6 +3,7 @@ use crate::between;
 use meetings::joint;
 use moves::step::Next;
 use moves::step::Step;
+use nodes::run;
 use states::state::State;
 ghost use mathlib.Core.Path.{_≡_};
 ghost use Prim.Native.Nat.{_≤_};
@@ -23,58 +24,77 @@ fn place(mark: usize) -> usize
     mark - 1
 }
 
-// The next silent step of two threads.
+// The next silent step of two threads behind one: the takers of its sender that are left, whose channel and message are at hand, and then the
+// senders after it.
 fn later(
     s: &[u8],
     state: State,
     step: Step,
     m: &mut [u8],
     out: &mut [u8],
+    channel: &mut [u8],
     message: &mut [u8],
 ) -> Next
-    requires { ⌜ (length (now s) ≤ 12288) × (state .end ≤ length (now out)) ⌝ }
+    requires { ⌜ (length (now s) ≤ 36864) × (state .end ≤ length (now out)) ⌝ }
     ensures { λ _. ⌜ Within 0 (length (now (m .entry))) (now (m .entry)) (now (m .exit)) ⌝ }
     ensures { λ _. ⌜ Within (state .end) (length (now (out .entry))) (now (out .entry)) (now (out .exit)) ⌝ }
+    ensures { λ _. ⌜ length (now (channel .exit)) ≡ length (now (channel .entry)) ⌝ }
     ensures { λ _. ⌜ length (now (message .exit)) ≡ length (now (message .entry)) ⌝ }
-    ensures { λ r. ⌜ NextBetween (now (s .entry)) state step (now (m .entry)) (now (out .entry)) (now (message .entry)) r (now (message .exit)) ⌝ }
+    ensures { λ r. ⌜ NextBetween (now (s .entry)) state step (now (m .entry)) (now (out .entry)) (now (channel .entry)) (now (message .entry)) r (now (channel .exit)) (now (message .exit)) ⌝ }
 {
     let sender = step.sender;
     let taker = step.taker;
-    between::between(
+    let long = 2 * run::size(channel);
+    match between::take(
         s,
-        state.start,
-        sender.at,
-        state.names,
+        &channel[0..long],
         state.end,
         m,
-        place(sender.mark),
+        sender,
         taker.at,
         taker.mark,
         out,
-        message,
-    )
+        step.size,
+    ) {
+        Next::Found(found) => Next::Found(found),
+        Next::None => between::between(
+            s,
+            state.start,
+            sender.at,
+            state.names,
+            state.end,
+            m,
+            sender.mark,
+            out,
+            channel,
+            message,
+        ),
+    }
 }
 
-// The next silent step behind one, or the first one.
+// The next silent step behind one, or the first one. The channel of a step of two threads stands at the front of one slice, and what a step
+// sends at the front of another.
 pub fn next(
     s: &[u8],
     state: State,
     step: Step,
     m: &mut [u8],
     out: &mut [u8],
+    channel: &mut [u8],
     message: &mut [u8],
 ) -> Next
-    requires { ⌜ (length (now s) ≤ 12288) × (state .end ≤ length (now out)) ⌝ }
+    requires { ⌜ (length (now s) ≤ 36864) × (state .end ≤ length (now out)) ⌝ }
     ensures { λ _. ⌜ Within 0 (length (now (m .entry))) (now (m .entry)) (now (m .exit)) ⌝ }
     ensures { λ _. ⌜ Within (state .end) (length (now (out .entry))) (now (out .entry)) (now (out .exit)) ⌝ }
+    ensures { λ _. ⌜ length (now (channel .exit)) ≡ length (now (channel .entry)) ⌝ }
     ensures { λ _. ⌜ length (now (message .exit)) ≡ length (now (message .entry)) ⌝ }
-    ensures { λ r. ⌜ NextSilent (now (s .entry)) state step (now (m .entry)) (now (out .entry)) (now (message .entry)) r (now (message .exit)) ⌝ }
+    ensures { λ r. ⌜ NextSilent (now (s .entry)) state step (now (m .entry)) (now (out .entry)) (now (channel .entry)) (now (message .entry)) r (now (channel .exit)) (now (message .exit)) ⌝ }
 {
     let mode = step.mode;
     if mode == 0 {
-        return later(s, state, step, m, out, message);
+        return later(s, state, step, m, out, channel, message);
     }
-    first(s, state, step, m, out, message)
+    first(s, state, step, m, out, channel, message)
 }
 
 // Those in copies from a step on, and then all those of two threads.
@@ -84,13 +104,15 @@ fn first(
     step: Step,
     m: &mut [u8],
     out: &mut [u8],
+    channel: &mut [u8],
     message: &mut [u8],
 ) -> Next
-    requires { ⌜ (length (now s) ≤ 12288) × (state .end ≤ length (now out)) ⌝ }
+    requires { ⌜ (length (now s) ≤ 36864) × (state .end ≤ length (now out)) ⌝ }
     ensures { λ _. ⌜ Within 0 (length (now (m .entry))) (now (m .entry)) (now (m .exit)) ⌝ }
     ensures { λ _. ⌜ Within (state .end) (length (now (out .entry))) (now (out .entry)) (now (out .exit)) ⌝ }
+    ensures { λ _. ⌜ length (now (channel .exit)) ≡ length (now (channel .entry)) ⌝ }
     ensures { λ _. ⌜ length (now (message .exit)) ≡ length (now (message .entry)) ⌝ }
-    ensures { λ r. ⌜ NextJoint (now (s .entry)) state step (now (m .entry)) (now (out .entry)) (now (message .entry)) r (now (message .exit)) ⌝ }
+    ensures { λ r. ⌜ NextJoint (now (s .entry)) state step (now (m .entry)) (now (out .entry)) (now (channel .entry)) (now (message .entry)) r (now (channel .exit)) (now (message .exit)) ⌝ }
 {
     let start = state.start;
     let sender = step.sender;
@@ -118,9 +140,8 @@ fn first(
             state.end,
             m,
             0,
-            start,
-            0,
             out,
+            channel,
             message,
         ),
     }

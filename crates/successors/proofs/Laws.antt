@@ -10,4 +10,8 @@ pub mod RebuiltMove
 pub mod RebuiltMeant
 pub mod Lead
 pub mod Leads
+pub mod Bare
+pub mod BareForm
+pub mod Light
+pub mod LightMove
 pub mod Tasks

@@ -1,11 +1,12 @@
 -- The state that a step leads to, formed in the work bytes behind the one that it leaves ("Steps"; "Judging and its count"). Assumes
 -- nothing.
 use mathlib.Core.Path.{_≡_}
-use mathlib.Core.Bool.{false}
+use mathlib.Core.Bool.{Bool, false}
 use mathlib.Core.List.{List}
 use Prim.Native.Nat.{ℕ}
 use Rattle.meaning.specs.Messages.Term.{Message}
 use Rattle.meaning.specs.Steps.State.{State}
+use Rattle.meaning.specs.Judging.Visits.{Arrival}
 use Rattle.forms.specs.Form.{Forms}
 use Rattle.states.specs.declared.state.State as code
 use Rattle.forms.specs.declared.form.Formed.{Formed}
@@ -15,11 +16,20 @@ use Rattle.moves.specs.Held.{Held}
 use Rattle.moves.specs.Moving.{Moving, Leading}
 use Rattle.rests.specs.Rests.{lastFor}
 use Rattle.moves.specs.declared.step.Step as step
+use Rattle.successors.specs.Bare.{StandsFor}
 
 -- Whatever state stands there, and whatever step of it this is: the state that it leads to.
 pub record Leads (s : List ℕ) (st : code.State) (v : step.Step) (message m out : List ℕ) (r : Formed) (after : List ℕ) : Type 0 where
   pub exact : (S : State) (h : Held s out st S) (x : Message) (w : Move) → Moving s out st S h v x w message → Leading s st S m out
       → Forms s (st .end) (arrivalOf S (outcome (h .at .placed) (S .next) x w)) r after
+
+-- For those that look at its threads, or do not: a state is formed that will do for the one that is reached.
+abbrev pub FormsFor : (quiet : Bool) (s : List ℕ) (begin : ℕ) → Arrival → Formed → (out : List ℕ) → Type 0
+FormsFor quiet s begin A r out = (B : Arrival) × StandsFor quiet A B × Forms s begin B r out
+
+pub record LeadsFor (quiet : Bool) (s : List ℕ) (st : code.State) (v : step.Step) (message m out : List ℕ) (r : Formed) (after : List ℕ) : Type 0 where
+  pub exact : (S : State) (h : Held s out st S) (x : Message) (w : Move) → Moving s out st S h v x w message → Leading s st S m out
+      → FormsFor quiet s (st .end) (arrivalOf S (outcome (h .at .placed) (S .next) x w)) r after
 
 -- The state with these names, if settling its rests meets no limit.
 pub record LeadsAt (s : List ℕ) (st : code.State) (v : step.Step) (last next : ℕ) (message m out : List ℕ) (r : Formed) (after : List ℕ) : Type 0

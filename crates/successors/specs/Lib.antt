@@ -1,4 +1,5 @@
 pub mod Lead
+pub mod Bare
 pub mod Rebuild
 pub mod Block
 pub mod Tasks

@@ -34,7 +34,7 @@ rebuilt x i T j U at (t ∷ ts) g = further (renewed x i T j U at t g) (rebuilt 
 -- What both tasks ask for: a label, a model and bytes to work in, and private names that two bytes hold.
 pub record Prepared (s label m : List ℕ) (T U : Task) (x : Message) (n : ℕ) : Type 0 where
   pub labelled : Labelled label x
-  pub short : length s ≤ 12288
+  pub short : length s ≤ 36864
   pub room : 10750 ≤ length m
   pub names : NamesSmall T n
   pub other-names : NamesSmall U n

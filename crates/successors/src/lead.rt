@@ -1,4 +1,5 @@
 // The state that a step leads to, formed behind the one that it leaves ("Steps"; "Judging and its count").
+use crate::bare;
 use crate::rebuild;
 use crate::tasks;
 use alias_lists::aliases;
@@ -11,7 +12,7 @@ use states::state::State;
 ghost use Prim.Native.Nat.{_≤_};
 ghost use lib.ListN.{length};
 ghost use Rattle.nodes.specs.Buffer.{Within};
-ghost use Rattle.successors.specs.Lead.{LeadsAt, Leads};
+ghost use Rattle.successors.specs.Lead.{LeadsAt, Leads, LeadsFor};
 
 // The state with the private names of its rests.
 fn build(
@@ -24,7 +25,7 @@ fn build(
     m: &mut [u8],
     out: &mut [u8],
 ) -> Formed
-    requires { ⌜ (length (now s) ≤ 12288) × (state .end ≤ length (now out)) ⌝ }
+    requires { ⌜ (length (now s) ≤ 36864) × (state .end ≤ length (now out)) ⌝ }
     ensures { λ _. ⌜ Within 0 (length (now (m .entry))) (now (m .entry)) (now (m .exit)) ⌝ }
     ensures { λ _. ⌜ Within (state .end) (length (now (out .entry))) (now (out .entry)) (now (out .exit)) ⌝ }
     ensures { λ r. ⌜ LeadsAt (now (s .entry)) state step last next (now (message .entry)) (now (m .entry)) (now (out .entry)) r (now (out .exit)) ⌝ }
@@ -49,16 +50,9 @@ fn build(
     ))
 }
 
-// The state that a step leads to: the message is the one that is sent, or that of an input's label.
-pub fn lead(
-    s: &[u8],
-    state: State,
-    step: Step,
-    message: &[u8],
-    m: &mut [u8],
-    out: &mut [u8],
-) -> Formed
-    requires { ⌜ (length (now s) ≤ 12288) × (state .end ≤ length (now out)) ⌝ }
+// The state that a step leads to, with its threads.
+fn whole(s: &[u8], state: State, step: Step, message: &[u8], m: &mut [u8], out: &mut [u8]) -> Formed
+    requires { ⌜ (length (now s) ≤ 36864) × (state .end ≤ length (now out)) ⌝ }
     ensures { λ _. ⌜ Within 0 (length (now (m .entry))) (now (m .entry)) (now (m .exit)) ⌝ }
     ensures { λ _. ⌜ Within (state .end) (length (now (out .entry))) (now (out .entry)) (now (out .exit)) ⌝ }
     ensures { λ r. ⌜ Leads (now (s .entry)) state step (now (message .entry)) (now (m .entry)) (now (out .entry)) r (now (out .exit)) ⌝ }
@@ -67,4 +61,29 @@ pub fn lead(
         Rests::At(last, next) => build(s, state, step, last, next, message, m, out),
         Rests::OverLimit => Formed::OverLimit,
     }
+}
+
+// The state that a step leads to: the message is the one that is sent, or that of an input's label. Where quiet is true its threads may be
+// left out.
+pub fn lead(
+    s: &[u8],
+    state: State,
+    step: Step,
+    message: &[u8],
+    quiet: bool,
+    m: &mut [u8],
+    out: &mut [u8],
+) -> Formed
+    requires { ⌜ (length (now s) ≤ 36864) × (state .end ≤ length (now out)) ⌝ }
+    ensures { λ _. ⌜ Within 0 (length (now (m .entry))) (now (m .entry)) (now (m .exit)) ⌝ }
+    ensures { λ _. ⌜ Within (state .end) (length (now (out .entry))) (now (out .entry)) (now (out .exit)) ⌝ }
+    ensures { λ r. ⌜ LeadsFor quiet (now (s .entry)) state step (now (message .entry)) (now (m .entry)) (now (out .entry)) r (now (out .exit)) ⌝ }
+{
+    if quiet {
+        return match bare::form(s, state, step, message, m, out) {
+            Formed::At(bare) => Formed::At(bare),
+            Formed::OverLimit => whole(s, state, step, message, m, out),
+        };
+    }
+    whole(s, state, step, message, m, out)
 }

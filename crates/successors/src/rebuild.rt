@@ -23,7 +23,7 @@ fn act(
     out: &mut [u8],
     done: Progress,
 ) -> Progress
-    requires { ⌜ (at + 4 ≤ length (now out)) × (length (now s) ≤ 12288) ⌝ }
+    requires { ⌜ (at + 4 ≤ length (now out)) × (length (now s) ≤ 36864) ⌝ }
     ensures { λ r. ⌜ Extends done r ⌝ }
     ensures { λ _. ⌜ Within 0 (length (now (m .entry))) (now (m .entry)) (now (m .exit)) ⌝ }
     ensures { λ _. ⌜ Within (done .state .end) (length (now (out .entry))) (now (out .entry)) (now (out .exit)) ⌝ }
@@ -50,7 +50,7 @@ pub fn rebuild(
     out: &mut [u8],
     done: Progress,
 ) -> Progress
-    requires { ⌜ (to ≤ length (now out)) × (length (now s) ≤ 12288) ⌝ }
+    requires { ⌜ (to ≤ length (now out)) × (length (now s) ≤ 36864) ⌝ }
     ensures { λ r. ⌜ Extends done r ⌝ }
     ensures { λ _. ⌜ Within 0 (length (now (m .entry))) (now (m .entry)) (now (m .exit)) ⌝ }
     ensures { λ _. ⌜ Within (done .state .end) (length (now (out .entry))) (now (out .entry)) (now (out .exit)) ⌝ }
@@ -94,7 +94,7 @@ fn rest(
     out: &mut [u8],
     done: Progress,
 ) -> Progress
-    requires { ⌜ (at ≤ to) × (to ≤ length (now out)) × (length (now s) ≤ 12288) ⌝ }
+    requires { ⌜ (at ≤ to) × (to ≤ length (now out)) × (length (now s) ≤ 36864) ⌝ }
     ensures { λ r. ⌜ Extends done r ⌝ }
     ensures { λ _. ⌜ Within 0 (length (now (m .entry))) (now (m .entry)) (now (m .exit)) ⌝ }
     ensures { λ _. ⌜ Within (done .state .end) (length (now (out .entry))) (now (out .entry)) (now (out .exit)) ⌝ }

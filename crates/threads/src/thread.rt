@@ -58,7 +58,7 @@ pub fn settle(
     out: &mut [u8],
     done: Progress,
 ) -> Progress
-    requires { ⌜ (end + 4606 ≤ length (now m)) × (at < length (now s)) × (length (now s) ≤ 12288) ⌝ }
+    requires { ⌜ (end + 4606 ≤ length (now m)) × (at < length (now s)) × (length (now s) ≤ 36864) ⌝ }
     ensures { λ r. ⌜ Extends done r ⌝ }
     ensures { λ _. ⌜ Within end (length (now (m .entry))) (now (m .entry)) (now (m .exit)) ⌝ }
     ensures { λ _. ⌜ Within (done .state .end) (length (now (out .entry))) (now (out .entry)) (now (out .exit)) ⌝ }
@@ -74,7 +74,7 @@ pub fn settle(
 
 // Whether an output, or an input, at a position is one that is looked for, but for its channel.
 pub fn meant(quest: Quest, at: usize, kind: usize) -> bool
-    requires { ⌜ at < 12288 ⌝ }
+    requires { ⌜ at < 36864 ⌝ }
     ensures { λ r. ⌜ r ≡ eligible quest at kind ⌝ }
 {
     if at < quest.from {
@@ -109,7 +109,7 @@ fn send(
     out: &mut [u8],
     done: Progress,
 ) -> Progress
-    requires { ⌜ (from ≤ to) × (to ≤ length (now m)) × (at < 12288) ⌝ }
+    requires { ⌜ (from ≤ to) × (to ≤ length (now m)) × (at < 36864) ⌝ }
     ensures { λ r. ⌜ Extends done r ⌝ }
     ensures { λ _. ⌜ Within (done .state .end) (length (now (out .entry))) (now (out .entry)) (now (out .exit)) ⌝ }
     ensures { λ r. ⌜ Sends (now (m .entry)) from to at names (now (out .entry)) done r (now (out .exit)) ⌝ }
@@ -152,7 +152,7 @@ fn handed(
     out: &mut [u8],
     done: Progress,
 ) -> Progress
-    requires { ⌜ (end ≤ last) × (last + 4096 ≤ length (now m)) × (at < length (now s)) × (length (now s) ≤ 12288) ⌝ }
+    requires { ⌜ (end ≤ last) × (last + 4096 ≤ length (now m)) × (at < length (now s)) × (length (now s) ≤ 36864) ⌝ }
     ensures { λ r. ⌜ Extends done r ⌝ }
     ensures { λ _. ⌜ Within last (length (now (m .entry))) (now (m .entry)) (now (m .exit)) ⌝ }
     ensures { λ _. ⌜ Within (done .state .end) (length (now (out .entry))) (now (out .entry)) (now (out .exit)) ⌝ }
@@ -179,7 +179,7 @@ fn channel(
     out: &mut [u8],
     done: Progress,
 ) -> Progress
-    requires { ⌜ (end + 4606 ≤ length (now m)) × (at < length (now s)) × (length (now s) ≤ 12288) ⌝ }
+    requires { ⌜ (end + 4606 ≤ length (now m)) × (at < length (now s)) × (length (now s) ≤ 36864) ⌝ }
     ensures { λ r. ⌜ Extends done r ⌝ }
     ensures { λ _. ⌜ Within end (length (now (m .entry))) (now (m .entry)) (now (m .exit)) ⌝ }
     ensures { λ _. ⌜ Within (done .state .end) (length (now (out .entry))) (now (out .entry)) (now (out .exit)) ⌝ }
@@ -208,7 +208,7 @@ pub fn seek(
     out: &mut [u8],
     done: Progress,
 ) -> Progress
-    requires { ⌜ (end + 4606 ≤ length (now m)) × (at < length (now s)) × (length (now s) ≤ 12288) ⌝ }
+    requires { ⌜ (end + 4606 ≤ length (now m)) × (at < length (now s)) × (length (now s) ≤ 36864) ⌝ }
     ensures { λ r. ⌜ Extends done r ⌝ }
     ensures { λ _. ⌜ Within end (length (now (m .entry))) (now (m .entry)) (now (m .exit)) ⌝ }
     ensures { λ _. ⌜ Within (done .state .end) (length (now (out .entry))) (now (out .entry)) (now (out .exit)) ⌝ }

@@ -7,7 +7,10 @@ pub mod Settling
 pub mod Head
 pub mod HeadKinds
 pub mod Count
+pub mod Fixed
 pub mod Walk
 pub mod Copy
 pub mod Prefix
 pub mod Repl
+pub mod Seek
+pub mod Build

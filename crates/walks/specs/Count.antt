@@ -2,11 +2,12 @@
 use mathlib.Core.Path.{_≡_}
 use mathlib.Core.Bool.{Bool, true, false}
 use mathlib.Core.List.{List}
-use Prim.Native.Nat.{ℕ}
+use Prim.Native.Nat.{ℕ, _-_}
 use lib.ListN.{getD}
 use Rattle.meaning.specs.Bytes.Process.{Process}
 use Rattle.meaning.specs.Steps.State.{Bound, names}
 use Rattle.meaning.specs.Judging.Limits.{overSettling}
+use Rattle.indexes.specs.Index.{InModel}
 use Rattle.walks.specs.Head.{CanSettle}
 use Rattle.walks.specs.declared.count.Counted.{Counted}
 use Rattle.walks.specs.declared.count.Counted.the-variants.{Names, OverLimit}
@@ -18,6 +19,10 @@ countedOf false next = Names next
 
 abbrev pub countOf : Process → Bound → ℕ → Counted
 countOf P ρ n = countedOf (overSettling P ρ n) (names P ρ n)
+
+-- Where the answer is not 0, whatever process stands there takes names up to one less than that, under whatever messages.
+pub record Fixed (s : List ℕ) (at n r : ℕ) : Type 0 where
+  pub exact : (r ≡ 0 → ⊥) → (P : Process) (ρ : Bound) {end : ℕ} → InModel s at P end → Names (r - 1) ≡ countOf P ρ n
 
 -- Whatever process stands there, that is the answer; and the same, if that process is of a kind.
 pub record Counts (s : List ℕ) (at left : ℕ) (m : List ℕ) (end n : ℕ) (r : Counted) : Type 0 where

@@ -4,3 +4,5 @@ pub mod Walking
 pub mod Head
 pub mod Count
 pub mod Walk
+pub mod Seek
+pub mod Build

@@ -70,7 +70,7 @@ pub record Ready (s label : List ℕ) (at left : ℕ) (m : List ℕ) (end : ℕ)
     pub next : ℕ
     pub process : ProcessAt s at left (length ρ) P next
     pub shallow : left ≤ 64
-    pub short : length s ≤ 12288
+    pub short : length s ≤ 36864
     pub labelled : label ≡ encodeMessage x
     pub small : length label ≤ 510
     pub normal : Normal x

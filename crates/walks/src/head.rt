@@ -70,7 +70,7 @@ fn arrive(s: &[u8], at: usize, left: usize, size: usize, end: usize, names: usiz
 
 // New: the next private name is bound.
 fn new(s: &[u8], at: usize, left: usize, m: &mut [u8], end: usize, names: usize) -> Head
-    requires { ⌜ (1 ≤ left) × (at < length (now s)) × (end + 4606 ≤ length (now m)) × (length (now s) ≤ 12288) ⌝ }
+    requires { ⌜ (1 ≤ left) × (at < length (now s)) × (end + 4606 ≤ length (now m)) × (length (now s) ≤ 36864) ⌝ }
     ensures { λ r. ⌜ (r .left < left) × (end ≤ r .end) ⌝ }
     ensures { λ _. ⌜ Within end (length (now (m .entry))) (now (m .entry)) (now (m .exit)) ⌝ }
     ensures { λ r. ⌜ HasRoom (now (s .entry)) (length (now (m .exit))) r ⌝ }
@@ -85,7 +85,7 @@ fn new(s: &[u8], at: usize, left: usize, m: &mut [u8], end: usize, names: usize)
 
 // If: the two terms are worked and compared.
 fn branch(s: &[u8], at: usize, left: usize, m: &mut [u8], end: usize, names: usize) -> Head
-    requires { ⌜ (1 ≤ left) × (at < length (now s)) × (end + 4606 ≤ length (now m)) × (length (now s) ≤ 12288) ⌝ }
+    requires { ⌜ (1 ≤ left) × (at < length (now s)) × (end + 4606 ≤ length (now m)) × (length (now s) ≤ 36864) ⌝ }
     ensures { λ r. ⌜ (r .left < left) × (end ≤ r .end) ⌝ }
     ensures { λ _. ⌜ Within end (length (now (m .entry))) (now (m .entry)) (now (m .exit)) ⌝ }
     ensures { λ r. ⌜ HasRoom (now (s .entry)) (length (now (m .exit))) r ⌝ }
@@ -106,7 +106,7 @@ fn branch(s: &[u8], at: usize, left: usize, m: &mut [u8], end: usize, names: usi
 
 // Let: the message of the term is bound.
 fn bound(s: &[u8], at: usize, left: usize, m: &mut [u8], end: usize, names: usize) -> Head
-    requires { ⌜ (1 ≤ left) × (at < length (now s)) × (end + 4606 ≤ length (now m)) × (length (now s) ≤ 12288) ⌝ }
+    requires { ⌜ (1 ≤ left) × (at < length (now s)) × (end + 4606 ≤ length (now m)) × (length (now s) ≤ 36864) ⌝ }
     ensures { λ r. ⌜ (r .left < left) × (end ≤ r .end) ⌝ }
     ensures { λ _. ⌜ Within end (length (now (m .entry))) (now (m .entry)) (now (m .exit)) ⌝ }
     ensures { λ r. ⌜ HasRoom (now (s .entry)) (length (now (m .exit))) r ⌝ }
@@ -120,7 +120,7 @@ fn bound(s: &[u8], at: usize, left: usize, m: &mut [u8], end: usize, names: usiz
 
 // One node down from a head of these kinds.
 fn step(s: &[u8], head: Head, m: &mut [u8]) -> Head
-    requires { ⌜ (1 ≤ head .left) × (head .at < length (now s)) × (head .end + 4606 ≤ length (now m)) × (length (now s) ≤ 12288) ⌝ }
+    requires { ⌜ (1 ≤ head .left) × (head .at < length (now s)) × (head .end + 4606 ≤ length (now m)) × (length (now s) ≤ 36864) ⌝ }
     ensures { λ r. ⌜ (r .left < head .left) × (head .end ≤ r .end) ⌝ }
     ensures { λ _. ⌜ Within (head .end) (length (now (m .entry))) (now (m .entry)) (now (m .exit)) ⌝ }
     ensures { λ r. ⌜ HasRoom (now (s .entry)) (length (now (m .exit))) r ⌝ }
@@ -163,7 +163,7 @@ fn passes(s: &[u8], head: Head) -> bool
 // The head of the process at a position, with so many nodes left on its path, under the messages that are bound up to the position end, with
 // the next private name.
 pub fn descend(s: &[u8], at: usize, left: usize, m: &mut [u8], end: usize, names: usize) -> Head
-    requires { ⌜ (end ≤ length (now m)) × (length (now s) ≤ 12288) ⌝ }
+    requires { ⌜ (end ≤ length (now m)) × (length (now s) ≤ 36864) ⌝ }
     ensures { λ r. ⌜ (r .left ≤ left) × (end ≤ r .end) ⌝ }
     ensures { λ _. ⌜ Within end (length (now (m .entry))) (now (m .entry)) (now (m .exit)) ⌝ }
     ensures { λ r. ⌜ HasRoom (now (s .entry)) (length (now (m .exit))) r ⌝ }

@@ -43,7 +43,7 @@ pub fn walk(
     out: &mut [u8],
     done: Progress,
 ) -> Progress
-    requires { ⌜ (end ≤ length (now m)) × (length (now s) ≤ 12288) ⌝ }
+    requires { ⌜ (end ≤ length (now m)) × (length (now s) ≤ 36864) ⌝ }
     ensures { λ r. ⌜ Extends done r ⌝ }
     ensures { λ _. ⌜ Within end (length (now (m .entry))) (now (m .entry)) (now (m .exit)) ⌝ }
     ensures { λ _. ⌜ Within (done .state .end) (length (now (out .entry))) (now (out .entry)) (now (out .exit)) ⌝ }
@@ -72,7 +72,7 @@ fn node(
     out: &mut [u8],
     done: Progress,
 ) -> Progress
-    requires { ⌜ (1 ≤ head .left) × (head .at < length (now s)) × (head .end + 4606 ≤ length (now m)) × (length (now s) ≤ 12288) ⌝ }
+    requires { ⌜ (1 ≤ head .left) × (head .at < length (now s)) × (head .end + 4606 ≤ length (now m)) × (length (now s) ≤ 36864) ⌝ }
     ensures { λ r. ⌜ Leaves (head .end) (now (m .entry)) (now (m .exit)) (now (out .entry)) (now (out .exit)) done r ⌝ }
     ensures { λ r. ⌜ HeadWalks (now (s .entry)) (now (label .entry)) head (now (m .entry)) task (now (out .entry)) done r (now (out .exit)) ⌝ }
 {
@@ -106,7 +106,7 @@ fn both(
     out: &mut [u8],
     done: Progress,
 ) -> Progress
-    requires { ⌜ (1 ≤ left) × (at < length (now s)) × (end + 4606 ≤ length (now m)) × (length (now s) ≤ 12288) ⌝ }
+    requires { ⌜ (1 ≤ left) × (at < length (now s)) × (end + 4606 ≤ length (now m)) × (length (now s) ≤ 36864) ⌝ }
     ensures { λ r. ⌜ Leaves end (now (m .entry)) (now (m .exit)) (now (out .entry)) (now (out .exit)) done r ⌝ }
     ensures { λ r. ⌜ WalksIf 6 (now (s .entry)) (now (label .entry)) at left (now (m .entry)) end task (now (out .entry)) done r (now (out .exit)) ⌝ }
 {
@@ -136,7 +136,7 @@ fn prefix(
     out: &mut [u8],
     done: Progress,
 ) -> Progress
-    requires { ⌜ (1 ≤ left) × (at < length (now s)) × (end + 4606 ≤ length (now m)) × (length (now s) ≤ 12288) ⌝ }
+    requires { ⌜ (1 ≤ left) × (at < length (now s)) × (end + 4606 ≤ length (now m)) × (length (now s) ≤ 36864) ⌝ }
     ensures { λ r. ⌜ Leaves end (now (m .entry)) (now (m .exit)) (now (out .entry)) (now (out .exit)) done r ⌝ }
     ensures { λ r. ⌜ AtPrefix (now (s .entry)) (now (label .entry)) at left (now (m .entry)) end task (now (out .entry)) done r (now (out .exit)) ⌝ }
 {
@@ -153,7 +153,7 @@ fn prefix(
 }
 
 // A thread that acts by itself, as a step leaves it: what follows the sender or the taker is settled in its place.
-fn act(
+pub(crate) fn act(
     s: &[u8],
     label: &[u8],
     at: usize,
@@ -164,7 +164,7 @@ fn act(
     out: &mut [u8],
     done: Progress,
 ) -> Progress
-    requires { ⌜ (1 ≤ left) × (at < length (now s)) × (end + 4606 ≤ length (now m)) × (length (now s) ≤ 12288) ⌝ }
+    requires { ⌜ (1 ≤ left) × (at < length (now s)) × (end + 4606 ≤ length (now m)) × (length (now s) ≤ 36864) ⌝ }
     ensures { λ r. ⌜ Leaves end (now (m .entry)) (now (m .exit)) (now (out .entry)) (now (out .exit)) done r ⌝ }
     ensures { λ r. ⌜ ActsAs plan (now (s .entry)) (now (label .entry)) at left (now (m .entry)) end (now (out .entry)) done r (now (out .exit)) ⌝ }
 {
@@ -193,7 +193,7 @@ fn follow(
     out: &mut [u8],
     done: Progress,
 ) -> Progress
-    requires { ⌜ (1 ≤ left) × (at < length (now s)) × (end ≤ length (now m)) × (length (now s) ≤ 12288) ⌝ }
+    requires { ⌜ (1 ≤ left) × (at < length (now s)) × (end ≤ length (now m)) × (length (now s) ≤ 36864) ⌝ }
     ensures { λ r. ⌜ Leaves end (now (m .entry)) (now (m .exit)) (now (out .entry)) (now (out .exit)) done r ⌝ }
     ensures { λ r. ⌜ Follows names (now (s .entry)) (now (label .entry)) at left (now (m .entry)) end (now (out .entry)) done r (now (out .exit)) ⌝ }
 {
@@ -224,7 +224,7 @@ fn receive(
     out: &mut [u8],
     done: Progress,
 ) -> Progress
-    requires { ⌜ (1 ≤ left) × (at < length (now s)) × (end + 4606 ≤ length (now m)) × (length (now s) ≤ 12288) ⌝ }
+    requires { ⌜ (1 ≤ left) × (at < length (now s)) × (end + 4606 ≤ length (now m)) × (length (now s) ≤ 36864) ⌝ }
     ensures { λ r. ⌜ Leaves end (now (m .entry)) (now (m .exit)) (now (out .entry)) (now (out .exit)) done r ⌝ }
     ensures { λ r. ⌜ Receives names (now (s .entry)) (now (label .entry)) at left (now (m .entry)) end (now (out .entry)) done r (now (out .exit)) ⌝ }
 {
@@ -247,7 +247,7 @@ fn repl(
     out: &mut [u8],
     done: Progress,
 ) -> Progress
-    requires { ⌜ (1 ≤ left) × (at < length (now s)) × (end + 4606 ≤ length (now m)) × (length (now s) ≤ 12288) ⌝ }
+    requires { ⌜ (1 ≤ left) × (at < length (now s)) × (end + 4606 ≤ length (now m)) × (length (now s) ≤ 36864) ⌝ }
     ensures { λ r. ⌜ Leaves end (now (m .entry)) (now (m .exit)) (now (out .entry)) (now (out .exit)) done r ⌝ }
     ensures { λ r. ⌜ WalksIf 7 (now (s .entry)) (now (label .entry)) at left (now (m .entry)) end task (now (out .entry)) done r (now (out .exit)) ⌝ }
 {
@@ -270,7 +270,7 @@ fn perform(
     out: &mut [u8],
     done: Progress,
 ) -> Progress
-    requires { ⌜ (1 ≤ left) × (at < length (now s)) × (end ≤ length (now m)) × (length (now s) ≤ 12288) ⌝ }
+    requires { ⌜ (1 ≤ left) × (at < length (now s)) × (end ≤ length (now m)) × (length (now s) ≤ 36864) ⌝ }
     ensures { λ r. ⌜ Leaves end (now (m .entry)) (now (m .exit)) (now (out .entry)) (now (out .exit)) done r ⌝ }
     ensures { λ r. ⌜ Performs copies (now (s .entry)) (now (label .entry)) at left (now (m .entry)) end (now (out .entry)) done r (now (out .exit)) ⌝ }
 {
@@ -291,7 +291,7 @@ fn pair(
     out: &mut [u8],
     done: Progress,
 ) -> Progress
-    requires { ⌜ (1 ≤ left) × (at < length (now s)) × (end ≤ length (now m)) × (length (now s) ≤ 12288) ⌝ }
+    requires { ⌜ (1 ≤ left) × (at < length (now s)) × (end ≤ length (now m)) × (length (now s) ≤ 36864) ⌝ }
     ensures { λ r. ⌜ Leaves end (now (m .entry)) (now (m .exit)) (now (out .entry)) (now (out .exit)) done r ⌝ }
     ensures { λ r. ⌜ OpensBoth copies (now (s .entry)) (now (label .entry)) at left (now (m .entry)) end (now (out .entry)) done r (now (out .exit)) ⌝ }
 {
@@ -313,7 +313,7 @@ fn enter(
     out: &mut [u8],
     done: Progress,
 ) -> Progress
-    requires { ⌜ (1 ≤ left) × (at < length (now s)) × (end ≤ length (now m)) × (length (now s) ≤ 12288) ⌝ }
+    requires { ⌜ (1 ≤ left) × (at < length (now s)) × (end ≤ length (now m)) × (length (now s) ≤ 36864) ⌝ }
     ensures { λ r. ⌜ Leaves end (now (m .entry)) (now (m .exit)) (now (out .entry)) (now (out .exit)) done r ⌝ }
     ensures { λ r. ⌜ OpensBy opening (now (s .entry)) (now (label .entry)) at left (now (m .entry)) end (now (out .entry)) done r (now (out .exit)) ⌝ }
 {
@@ -354,7 +354,7 @@ fn copy(
     out: &mut [u8],
     done: Progress,
 ) -> Progress
-    requires { ⌜ (1 ≤ left) × (at < length (now s)) × (end ≤ length (now m)) × (length (now s) ≤ 12288) ⌝ }
+    requires { ⌜ (1 ≤ left) × (at < length (now s)) × (end ≤ length (now m)) × (length (now s) ≤ 36864) ⌝ }
     ensures { λ r. ⌜ Leaves end (now (m .entry)) (now (m .exit)) (now (out .entry)) (now (out .exit)) done r ⌝ }
     ensures { λ r. ⌜ Opens task opens (now (s .entry)) (now (label .entry)) at left (now (m .entry)) end (now (out .entry)) done r (now (out .exit)) ⌝ }
 {
@@ -389,7 +389,7 @@ fn inside(
     done: Progress,
     before: usize,
 ) -> Progress
-    requires { ⌜ (end ≤ length (now m)) × (length (now s) ≤ 12288) ⌝ }
+    requires { ⌜ (end ≤ length (now m)) × (length (now s) ≤ 36864) ⌝ }
     ensures { λ r. ⌜ Leaves end (now (m .entry)) (now (m .exit)) (now (out .entry)) (now (out .exit)) done r ⌝ }
     ensures { λ r. ⌜ Returns before (now (s .entry)) (now (label .entry)) at left (now (m .entry)) end task (now (out .entry)) done r (now (out .exit)) ⌝ }
 {

@@ -3,32 +3,26 @@
 use mathlib.Core.Path.{_≡_}
 use mathlib.Core.Bool.{Bool, true, false}
 use mathlib.Core.List.{List}
-use Prim.Native.Nat.{ℕ, suc, _+_, _-_, _*_, _≤_}
+use Prim.Native.Nat.{ℕ, suc, _+_, _*_, _≤_, _<_}
 use lib.ListN.{length, getD}
 use Rattle.meaning.specs.Messages.Term.{Term, leaf, private, Message}
 use Rattle.meaning.specs.Messages.Normal.{equal}
-use Rattle.meaning.specs.Bytes.Process.{Prefix, Process}
-use Rattle.meaning.specs.Bytes.Encoding.{encodeProcess}
+use Rattle.meaning.specs.Bytes.Process.{Process}
 use Rattle.meaning.specs.Bytes.Nesting.{variables}
-use Rattle.meaning.specs.Bytes.Standing.{Stands}
 use Rattle.meaning.specs.Steps.State.{Bound, _▸_, written, worked, names, settle}
 use Rattle.meaning.specs.Logic.Truth.{anyOf}
 use Rattle.meaning.specs.Judging.Limits.{overSettling, overOffers}
 use Rattle.terms.specs.Bound.{BoundTo}
-use Rattle.states.specs.Place.{ProcessAt, thenAt, elseAt, bodyAt, rightAt, restAt}
+use Rattle.states.specs.Place.{ProcessAt, thenAt, elseAt, bodyAt, rightAt}
 use Rattle.walks.specs.News.{news, laterNews}
 use Rattle.walks.specs.Head.{CanSettle}
-use Rattle.states.specs.Course.{Going}
-use Rattle.states.specs.Shown.{Shows}
-use Rattle.threads.specs.Thread.{Held}
-use Rattle.states.specs.declared.progress.Progress.{Progress}
+use Rattle.walks.specs.Count.{countOf}
+use Rattle.walks.specs.declared.count.Counted.{Counted}
 use Rattle.positions.specs.Located.{Acting}
 use Rattle.positions.specs.Sought.{Opened}
 use Rattle.moves.specs.Outcome.{boundAfter}
 use Rattle.forms.specs.Visit.{Labelled}
-use Rattle.ways.specs.declared.reach.Reached.{Reached}
-use Rattle.ways.specs.declared.count.Counted.{Counted}
-use Rattle.ways.specs.declared.count.Counted.the-variants.{Names, OverLimit}
+use Rattle.ways.specs.declared.reach.Way.{Way}
 
 -- A process that settling comes to: its position and its bound messages, the private name at which it is settled, and the one at which its
 -- copies open.
@@ -66,13 +60,10 @@ abbrev pub copySite : Opened → (n : ℕ) → Site
 copySite w n =
     record { process = Process.repl (w .copied); place = w .place; bound = w .bound; settled = n; opens = w .opens }
 
--- A process at a position, the message of a label, the messages that are bound, and room for whatever the process may bind or work.
-pub record Prepared (s label : List ℕ) (at left : ℕ) (m : List ℕ) (end : ℕ) (P : Process) (x : Message) (ρ : Bound) : Type 0 where
+-- A process at a position, the messages that are bound, and room for whatever the process may bind or work.
+pub record Prepared (s : List ℕ) (at left : ℕ) (m : List ℕ) (end : ℕ) (P : Process) (ρ : Bound) : Type 0 where
   pub next : ℕ
   pub process : ProcessAt s at left (length ρ) P next
-  pub shallow : left ≤ 64
-  pub short : length s ≤ 12288
-  pub labelled : Labelled label x
   pub bound : BoundTo m 0 ρ end
   pub room : end + 512 * variables P + 4606 ≤ length m
 
@@ -87,52 +78,53 @@ pub record Allowed (P : Process) (ρ : Bound) (n k : ℕ) : Type 0 where
 pub record Takes (s : List ℕ) (at left : ℕ) (m : List ℕ) (end n : ℕ) (r : ℕ) : Type 0 where
   pub exact : (P : Process) (ρ : Bound) → CanSettle s at left m end n P ρ → overSettling P ρ n ≡ false → r ≡ names P ρ n
 
--- The process at the mark was reached: its messages are bound, and it meets no limit.
-pub record Arrives (s label after : List ℕ) (r : Reached) (x : Message) (w : Site) : Type 0 where
-  pub there : r .there ≡ true
+-- A process stands where a way has come to, from which settling comes to a site. Its messages are bound, and it meets no limit.
+pub record Leads (s m : List ℕ) (r : Way) (w : Site) : Type 0 where
+  pub process : Process
+  pub bound : Bound
+  pub prepared : Prepared s (r .at) (r .left) m (r .end) process bound
+  pub allowed : Allowed process bound (r .names) (r .opens)
+  pub down : Down process (r .at) bound (r .names) (r .opens) w
+
+-- The way has come to the site.
+pub record Arrives (s m : List ℕ) (r : Way) (w : Site) : Type 0 where
   pub place : r .at ≡ w .place
-  pub next : r .next ≡ w .opens
-  pub prepared : Prepared s label (w .place) (r .left) after (r .end) (w .process) x (w .bound)
+  pub opens : r .opens ≡ w .opens
+  pub prepared : Prepared s (w .place) (r .left) m (r .end) (w .process) (w .bound)
   pub allowed : Allowed (w .process) (w .bound) (w .settled) (w .opens)
 
--- Whatever process stands there, settled at n, with copies opened at k: if settling comes to one at the mark, it is reached.
-pub record Reaches (s label : List ℕ) (at left : ℕ) (m : List ℕ) (end mark n k : ℕ) (out : List ℕ) (now : Progress) (r : Reached) (after : List ℕ)
-    : Type 0 where
-  pub exact : (P : Process) (x : Message) (ρ : Bound) (g : Going) (w : Site) → Prepared s label at left m end P x ρ → Allowed P ρ n k
-      → Shows s out now g → Down P at ρ n k w → mark ≡ w .place + 1 → Arrives s label after r x w
+-- If the way f leads to a process at the mark, r has come to it.
+pub record Reaches (s m : List ℕ) (f : Way) (mark : ℕ) (r : Way) (after : List ℕ) : Type 0 where
+  pub exact : (w : Site) → Leads s m f w → mark ≡ w .place + 1 → Arrives s after r w
 
--- The same, if the mark is not that of the process itself; and if the process is of a kind besides; for a par, if the mark is not in its
--- first side; and for a repl, which may be settled at any name.
-pub record Passes (s label : List ℕ) (at left : ℕ) (m : List ℕ) (end mark n k : ℕ) (out : List ℕ) (now : Progress) (r : Reached) (after : List ℕ)
-    : Type 0 where
-  pub exact : (at + 1 ≡ mark → ⊥) → Reaches s label at left m end mark n k out now r after
+-- If f leads to a process at the mark, so does r.
+pub record Follows (s m : List ℕ) (f : Way) (mark : ℕ) (r : Way) (after : List ℕ) : Type 0 where
+  pub exact : (w : Site) → Leads s m f w → mark ≡ w .place + 1 → Leads s after r w
 
-pub record PassesIf (kind : ℕ) (s label : List ℕ) (at left : ℕ) (m : List ℕ) (end mark n k : ℕ) (out : List ℕ) (now : Progress) (r : Reached)
-    (after : List ℕ) : Type 0 where
-  pub exact : getD s at 0 ≡ kind → Passes s label at left m end mark n k out now r after
+-- The same, if the mark is not that of the process where f has come to; and if that process is of a kind besides, whatever the mark; for a
+-- new, in whatever model; and for an if, under whatever messages.
+pub record Passes (s m : List ℕ) (f : Way) (mark : ℕ) (r : Way) (after : List ℕ) : Type 0 where
+  pub exact : (f .at + 1 ≡ mark → ⊥) → Follows s m f mark r after
 
-pub record OtherPasses (s label : List ℕ) (at left : ℕ) (m : List ℕ) (end mark n k : ℕ) (out : List ℕ) (now : Progress) (r : Reached)
-    (after : List ℕ) : Type 0 where
-  pub exact : Held s (at + 1) mark false → PassesIf 6 s label at left m end mark n k out now r after
+pub record PassesIf (kind : ℕ) (s m : List ℕ) (f : Way) (mark : ℕ) (r : Way) (after : List ℕ) : Type 0 where
+  pub exact : getD s (f .at) 0 ≡ kind → Passes s m f mark r after
 
-pub record CopyPasses (s label : List ℕ) (at left : ℕ) (m : List ℕ) (end mark k : ℕ) (out : List ℕ) (now : Progress) (r : Reached)
-    (after : List ℕ) : Type 0 where
-  pub exact : (n : ℕ) → PassesIf 7 s label at left m end mark n k out now r after
+pub record PassesAny (kind : ℕ) (s m : List ℕ) (f r : Way) (after : List ℕ) : Type 0 where
+  pub exact : (mark : ℕ) → PassesIf kind s m f mark r after
 
--- The private names of a process that is settled at n; or it meets a limit.
-abbrev pub countedOf : (large : Bool) → (next : ℕ) → Counted
-countedOf true next = OverLimit
-countedOf false next = Names next
+pub record NewPasses (m : List ℕ) (f r : Way) (after : List ℕ) : Type 0 where
+  pub exact : (s : List ℕ) → PassesAny 1 s m f r after
 
-abbrev pub countOf : Process → Bound → ℕ → Counted
-countOf P ρ n = countedOf (overSettling P ρ n) (names P ρ n)
+pub record IfPasses (s : List ℕ) (f : Way) (mark : ℕ) (r : Way) : Type 0 where
+  pub exact : (m : List ℕ) → PassesIf 4 s m f mark r m
 
--- Whatever output or input stands there, the answer is that for what follows it, under the messages that are bound.
-pub record CountsAfter (s : List ℕ) (at left : ℕ) (m : List ℕ) (end n : ℕ) (r : Counted) : Type 0 where
-  pub exact : (p : Prefix) (P : Process) (ρ : Bound) {next : ℕ} → Stands s at (encodeProcess (Process.act p P)) next
-      → CanSettle s (restAt at p) (left - 1) m end n P ρ → r ≡ countOf P ρ n
+-- Whether a way goes on: a node is left, and where a byte stands, the mark is another one.
+pub record Goes (s : List ℕ) (f : Way) (mark : ℕ) (r : Bool) : Type 0 where
+  pub node : r ≡ true → 1 ≤ f .left
+  pub other : r ≡ true → f .at < length s → f .at + 1 ≡ mark → ⊥
+  pub done : r ≡ false → 1 ≤ f .left → f .at + 1 ≡ mark
 
--- And for an input, under the message of the label too.
-pub record CountsRest (s label : List ℕ) (at left : ℕ) (m : List ℕ) (end n : ℕ) (out : List ℕ) (now : Progress) (r : Counted) : Type 0 where
-  pub exact : (a : Acting) (x : Message) (g : Going) → Prepared s label at left m end (Process.act (a .prefix) (a .rest)) x (a .bound)
-      → n + news (a .rest) ≤ 32760 → Shows s out now g → r ≡ countOf (a .rest) (boundAfter x a) n
+-- Whatever output or input stands there, the answer is that for what follows it, under the message of the label too if it is an input.
+pub record CountsRest (s label : List ℕ) (at left : ℕ) (m : List ℕ) (end n : ℕ) (r : Counted) : Type 0 where
+  pub exact : (a : Acting) (x : Message) → Prepared s at left m end (Process.act (a .prefix) (a .rest)) (a .bound) → Labelled label x
+      → n + news (a .rest) ≤ 32760 → r ≡ countOf (a .rest) (boundAfter x a) n

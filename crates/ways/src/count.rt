@@ -2,13 +2,13 @@
 // the answer is open.
 use binds::bind;
 use nodes::node;
-use states::progress::Progress;
 use threads::place;
 use walks::count;
-ghost use Prim.Native.Nat.{_≤_, _<_};
+use walks::count::Counted;
+ghost use Prim.Native.Nat.{_≤_};
 ghost use lib.ListN.{length};
 ghost use Rattle.nodes.specs.Buffer.{Within};
-ghost use Rattle.ways.specs.Reach.{Takes, CountsAfter, CountsRest};
+ghost use Rattle.ways.specs.Reach.{Takes, CountsRest};
 
 // The kind of an output.
 const OUTPUT: usize = 2;
@@ -19,21 +19,15 @@ const REACH: usize = 4606;
 // The most bytes of a label.
 const LABEL: usize = 510;
 
-// The private name after those that were counted; or a limit was met.
-pub enum Counted {
-    Names(usize),
-    OverLimit,
-}
-
 // The private name after those that the process at a position takes, if it is settled at the private name names and meets no limit.
 pub fn taken(s: &[u8], at: usize, left: usize, m: &mut [u8], end: usize, names: usize) -> usize
-    requires { ⌜ (end ≤ length (now m)) × (length (now s) ≤ 12288) ⌝ }
+    requires { ⌜ (end ≤ length (now m)) × (length (now s) ≤ 36864) ⌝ }
     ensures { λ _. ⌜ Within end (length (now (m .entry))) (now (m .entry)) (now (m .exit)) ⌝ }
     ensures { λ r. ⌜ Takes (now (s .entry)) at left (now (m .entry)) end names r ⌝ }
 {
     match count::count(s, at, left, m, end, names) {
-        count::Counted::Names(next) => next,
-        count::Counted::OverLimit => names,
+        Counted::Names(next) => next,
+        Counted::OverLimit => names,
     }
 }
 
@@ -47,13 +41,10 @@ pub fn rest(
     m: &mut [u8],
     end: usize,
     names: usize,
-    out: &mut [u8],
-    done: Progress,
 ) -> Counted
-    requires { ⌜ (end ≤ length (now m)) × (length (now s) ≤ 12288) ⌝ }
+    requires { ⌜ (end ≤ length (now m)) × (length (now s) ≤ 36864) ⌝ }
     ensures { λ _. ⌜ Within end (length (now (m .entry))) (now (m .entry)) (now (m .exit)) ⌝ }
-    ensures { λ _. ⌜ Within (done .state .end) (length (now (out .entry))) (now (out .entry)) (now (out .exit)) ⌝ }
-    ensures { λ r. ⌜ CountsRest (now (s .entry)) (now (label .entry)) at left (now (m .entry)) end names (now (out .entry)) done r ⌝ }
+    ensures { λ r. ⌜ CountsRest (now (s .entry)) (now (label .entry)) at left (now (m .entry)) end names r ⌝ }
 {
     if left == 0 {
         return Counted::OverLimit;
@@ -64,24 +55,13 @@ pub fn rest(
     if m.len() - end < REACH {
         return Counted::OverLimit;
     }
+    let next = place::rest(s, at);
     if node::wide(s[at]) == OUTPUT {
-        return after(s, at, left, m, end, names);
+        return count::count(s, next, left - 1, m, end, names);
     }
     if LABEL < label.len() {
         return Counted::OverLimit;
     }
     let last = bind::message(label, m, end);
-    after(s, at, left, m, last, names)
-}
-
-// The same under the messages that are bound up to the position end.
-fn after(s: &[u8], at: usize, left: usize, m: &mut [u8], end: usize, names: usize) -> Counted
-    requires { ⌜ (1 ≤ left) × (at < length (now s)) × (end ≤ length (now m)) × (length (now s) ≤ 12288) ⌝ }
-    ensures { λ _. ⌜ Within end (length (now (m .entry))) (now (m .entry)) (now (m .exit)) ⌝ }
-    ensures { λ r. ⌜ CountsAfter (now (s .entry)) at left (now (m .entry)) end names r ⌝ }
-{
-    match count::count(s, place::rest(s, at), left - 1, m, end, names) {
-        count::Counted::Names(next) => Counted::Names(next),
-        count::Counted::OverLimit => Counted::OverLimit,
-    }
+    count::count(s, next, left - 1, m, last, names)
 }

@@ -5,14 +5,13 @@ use binds::bind;
 use indexes::index;
 use layouts::ends;
 use nodes::node;
-use states::progress::Progress;
 use terms::work::Worked;
 use threads::place;
 ghost use mathlib.Core.Path.{_≡_};
 ghost use Prim.Native.Nat.{_+_, _≤_, _<_};
 ghost use lib.ListN.{length};
 ghost use Rattle.nodes.specs.Buffer.{Within};
-ghost use Rattle.ways.specs.Reach.{Reaches, Passes, PassesIf, OtherPasses, CopyPasses};
+ghost use Rattle.ways.specs.Reach.{Reaches, Passes, PassesIf, PassesAny, NewPasses, IfPasses, Goes};
 
 // The kinds of processes.
 const NEW: usize = 1;
@@ -28,343 +27,217 @@ const REPL: usize = 7;
 // How many bytes above the bound messages a walk may need to work terms.
 const REACH: usize = 4606;
 
-// Whether the mark was found, and then where its process stands, how many nodes are left on a path there, where the bound messages end, and
-// the private name at which copies open.
-pub struct Reached {
-    pub there: bool,
+// What a way has come to: where a process stands, how many nodes are left on a path there, where the bound messages end, the private name
+// at which it is settled, and the one at which its copies open. No node is left where the mark was not found.
+pub struct Way {
     pub at: usize,
     pub left: usize,
     pub end: usize,
-    pub next: usize,
+    pub names: usize,
+    pub opens: usize,
 }
 
 // The mark was not found.
-fn nowhere(end: usize) -> Reached
-    ensures { λ r. ⌜ r .end ≡ end ⌝ }
+fn nowhere(end: usize) -> Way
+    ensures { λ r. ⌜ (r .left ≡ 0) × (r .end ≡ end) ⌝ }
 {
-    Reached {
-        there: false,
+    Way {
         at: 0,
         left: 0,
         end: end,
-        next: 0,
+        names: 0,
+        opens: 0,
     }
 }
 
-// From the process at a position, with so many nodes left on its path, under the messages that are bound up to the position end, settled at
-// the private name names, its copies being opened at the private name opens, down to the process at the mark.
-pub fn reach(
-    s: &[u8],
-    label: &[u8],
-    at: usize,
-    left: usize,
-    m: &mut [u8],
-    end: usize,
-    mark: usize,
-    names: usize,
-    opens: usize,
-    out: &mut [u8],
-    done: Progress,
-) -> Reached
-    requires { ⌜ (end ≤ length (now m)) × (length (now s) ≤ 12288) ⌝ }
-    ensures { λ r. ⌜ r .end ≤ length (now (m .exit)) ⌝ }
-    ensures { λ _. ⌜ Within end (length (now (m .entry))) (now (m .entry)) (now (m .exit)) ⌝ }
-    ensures { λ _. ⌜ Within (done .state .end) (length (now (out .entry))) (now (out .entry)) (now (out .exit)) ⌝ }
-    ensures { λ r. ⌜ Reaches (now (s .entry)) (now (label .entry)) at left (now (m .entry)) end mark names opens (now (out .entry)) done r (now (m .exit)) ⌝ }
+// New: the next private name is bound.
+fn new(way: Way, m: &mut [u8]) -> Way
+    requires { ⌜ (1 ≤ way .left) × (way .at < 36864) × (way .end + 4606 ≤ length (now m)) ⌝ }
+    ensures { λ r. ⌜ (r .left < way .left) × (way .end ≤ r .end) × (r .end ≤ length (now (m .exit))) ⌝ }
+    ensures { λ _. ⌜ Within (way .end) (length (now (m .entry))) (now (m .entry)) (now (m .exit)) ⌝ }
+    ensures { λ r. ⌜ NewPasses (now (m .entry)) way r (now (m .exit)) ⌝ }
 {
-    if left == 0 {
+    let end = way.end;
+    let names = way.names;
+    if bind::LAST_NAME < names {
         return nowhere(end);
     }
-    if s.len() <= at {
+    let last = bind::name(m, end, names);
+    Way {
+        at: way.at + 1,
+        left: way.left - 1,
+        end: last,
+        names: names + 1,
+        opens: way.opens,
+    }
+}
+
+// If: the branch that has the mark in it.
+fn branch(s: &[u8], way: Way, mark: usize) -> Way
+    requires { ⌜ (1 ≤ way .left) × (way .at < length (now s)) × (length (now s) ≤ 36864) ⌝ }
+    ensures { λ r. ⌜ (r .left < way .left) × (r .end ≡ way .end) ⌝ }
+    ensures { λ r. ⌜ IfPasses (now (s .entry)) way mark r ⌝ }
+{
+    let first = ends::terms(s, way.at + 1, 2);
+    if place::holds(s, first, mark) {
+        return Way {
+            at: first,
+            left: way.left - 1,
+            end: way.end,
+            names: way.names,
+            opens: way.opens,
+        };
+    }
+    Way {
+        at: index::end(s, first),
+        left: way.left - 1,
+        end: way.end,
+        names: way.names,
+        opens: way.opens,
+    }
+}
+
+// Let: the message of the term is bound.
+fn bound(s: &[u8], way: Way, m: &mut [u8]) -> Way
+    requires { ⌜ (1 ≤ way .left) × (way .at < length (now s)) × (way .end + 4606 ≤ length (now m)) × (length (now s) ≤ 36864) ⌝ }
+    ensures { λ r. ⌜ (r .left < way .left) × (way .end ≤ r .end) × (r .end ≤ length (now (m .exit))) ⌝ }
+    ensures { λ _. ⌜ Within (way .end) (length (now (m .entry))) (now (m .entry)) (now (m .exit)) ⌝ }
+    ensures { λ r. ⌜ PassesAny 5 (now (s .entry)) (now (m .entry)) way r (now (m .exit)) ⌝ }
+{
+    let end = way.end;
+    match bind::term(s, way.at + 1, m, 0, end) {
+        Worked::Done(next, last) => Way {
+            at: next,
+            left: way.left - 1,
+            end: last,
+            names: way.names,
+            opens: way.opens,
+        },
+        Worked::TooLarge => nowhere(end),
+    }
+}
+
+// Par: the side that has the mark in it. The second is settled after the names of the first.
+fn side(s: &[u8], way: Way, m: &mut [u8], mark: usize) -> Way
+    requires { ⌜ (1 ≤ way .left) × (way .at < length (now s)) × (way .end + 4606 ≤ length (now m)) × (length (now s) ≤ 36864) ⌝ }
+    ensures { λ r. ⌜ (r .left < way .left) × (way .end ≤ r .end) × (r .end ≤ length (now (m .exit))) ⌝ }
+    ensures { λ _. ⌜ Within (way .end) (length (now (m .entry))) (now (m .entry)) (now (m .exit)) ⌝ }
+    ensures { λ r. ⌜ PassesIf 6 (now (s .entry)) (now (m .entry)) way mark r (now (m .exit)) ⌝ }
+{
+    let at = way.at + 1;
+    let left = way.left - 1;
+    let end = way.end;
+    let names = way.names;
+    if place::holds(s, at, mark) {
+        return Way {
+            at: at,
+            left: left,
+            end: end,
+            names: names,
+            opens: way.opens,
+        };
+    }
+    let later = count::taken(s, at, left, m, end, names);
+    Way {
+        at: index::end(s, at),
+        left: left,
+        end: end,
+        names: later,
+        opens: way.opens,
+    }
+}
+
+// Repl: the copy, opened at a private name. Copies inside it open after its names.
+fn copy(s: &[u8], way: Way, m: &mut [u8]) -> Way
+    requires { ⌜ (1 ≤ way .left) × (way .at < length (now s)) × (way .end + 4606 ≤ length (now m)) × (length (now s) ≤ 36864) ⌝ }
+    ensures { λ r. ⌜ (r .left < way .left) × (way .end ≤ r .end) × (r .end ≤ length (now (m .exit))) ⌝ }
+    ensures { λ _. ⌜ Within (way .end) (length (now (m .entry))) (now (m .entry)) (now (m .exit)) ⌝ }
+    ensures { λ r. ⌜ PassesAny 7 (now (s .entry)) (now (m .entry)) way r (now (m .exit)) ⌝ }
+{
+    let at = way.at + 1;
+    let left = way.left - 1;
+    let end = way.end;
+    let opens = way.opens;
+    let later = count::taken(s, at, left, m, end, opens);
+    Way {
+        at: at,
+        left: left,
+        end: end,
+        names: opens,
+        opens: later,
+    }
+}
+
+// One node down from a process that is not the one at the mark, by its kind.
+fn below(s: &[u8], way: Way, m: &mut [u8], mark: usize) -> Way
+    requires { ⌜ (1 ≤ way .left) × (way .at < length (now s)) × (way .end + 4606 ≤ length (now m)) × (length (now s) ≤ 36864) ⌝ }
+    ensures { λ r. ⌜ (r .left < way .left) × (way .end ≤ r .end) × (r .end ≤ length (now (m .exit))) ⌝ }
+    ensures { λ _. ⌜ Within (way .end) (length (now (m .entry))) (now (m .entry)) (now (m .exit)) ⌝ }
+    ensures { λ r. ⌜ Passes (now (s .entry)) (now (m .entry)) way mark r (now (m .exit)) ⌝ }
+{
+    let at = way.at;
+    let kind = node::wide(s[at]);
+    if kind == NEW {
+        return new(way, m);
+    }
+    if kind == IF {
+        return branch(s, way, mark);
+    }
+    if kind == LET {
+        return bound(s, way, m);
+    }
+    if kind == PAR {
+        return side(s, way, m, mark);
+    }
+    if kind == REPL {
+        return copy(s, way, m);
+    }
+    nowhere(way.end)
+}
+
+// The same, if a process stands there, with room to work terms.
+fn step(s: &[u8], way: Way, m: &mut [u8], mark: usize) -> Way
+    requires { ⌜ (1 ≤ way .left) × (way .end ≤ length (now m)) × (length (now s) ≤ 36864) ⌝ }
+    ensures { λ r. ⌜ (r .left < way .left) × (way .end ≤ r .end) × (r .end ≤ length (now (m .exit))) ⌝ }
+    ensures { λ _. ⌜ Within (way .end) (length (now (m .entry))) (now (m .entry)) (now (m .exit)) ⌝ }
+    ensures { λ r. ⌜ Passes (now (s .entry)) (now (m .entry)) way mark r (now (m .exit)) ⌝ }
+{
+    let end = way.end;
+    if s.len() <= way.at {
         return nowhere(end);
     }
     if m.len() - end < REACH {
         return nowhere(end);
     }
-    if at + 1 == mark {
-        return Reached {
-            there: true,
-            at: at,
-            left: left,
-            end: end,
-            next: opens,
-        };
-    }
-    below(s, label, at, left, m, end, mark, names, opens, out, done)
+    below(s, way, m, mark)
 }
 
-// The same for a process that is not the one at the mark, where a node is left for it, and room to work terms.
-fn below(
-    s: &[u8],
-    label: &[u8],
-    at: usize,
-    left: usize,
-    m: &mut [u8],
-    end: usize,
-    mark: usize,
-    names: usize,
-    opens: usize,
-    out: &mut [u8],
-    done: Progress,
-) -> Reached
-    requires { ⌜ (1 ≤ left) × (at < length (now s)) × (end + 4606 ≤ length (now m)) × (length (now s) ≤ 12288) ⌝ }
-    ensures { λ r. ⌜ r .end ≤ length (now (m .exit)) ⌝ }
-    ensures { λ _. ⌜ Within end (length (now (m .entry))) (now (m .entry)) (now (m .exit)) ⌝ }
-    ensures { λ _. ⌜ Within (done .state .end) (length (now (out .entry))) (now (out .entry)) (now (out .exit)) ⌝ }
-    ensures { λ r. ⌜ Passes (now (s .entry)) (now (label .entry)) at left (now (m .entry)) end mark names opens (now (out .entry)) done r (now (m .exit)) ⌝ }
+// Whether a way goes on: not where it has ended, nor where the mark is.
+fn goes(s: &[u8], way: Way, mark: usize) -> bool
+    ensures { λ r. ⌜ Goes (now (s .entry)) way mark r ⌝ }
 {
-    let kind = node::wide(s[at]);
-    if kind == NEW {
-        return new(s, label, at, left, m, end, mark, names, opens, out, done);
+    if way.left == 0 {
+        return false;
     }
-    if kind == IF {
-        return branch(s, label, at, left, m, end, mark, names, opens, out, done);
+    if s.len() <= way.at {
+        return true;
     }
-    if kind == LET {
-        return bound(s, label, at, left, m, end, mark, names, opens, out, done);
+    if way.at + 1 == mark {
+        return false;
     }
-    if kind == PAR {
-        return side(s, label, at, left, m, end, mark, names, opens, out, done);
-    }
-    if kind == REPL {
-        return copy(s, label, at, left, m, end, mark, opens, out, done);
-    }
-    nowhere(end)
+    true
 }
 
-// New: the next private name is bound.
-fn new(
-    s: &[u8],
-    label: &[u8],
-    at: usize,
-    left: usize,
-    m: &mut [u8],
-    end: usize,
-    mark: usize,
-    names: usize,
-    opens: usize,
-    out: &mut [u8],
-    done: Progress,
-) -> Reached
-    requires { ⌜ (1 ≤ left) × (at < length (now s)) × (end + 4606 ≤ length (now m)) × (length (now s) ≤ 12288) ⌝ }
+// From what a way has come to down to the process at the mark.
+pub fn reach(s: &[u8], way: Way, m: &mut [u8], mark: usize) -> Way
+    requires { ⌜ (way .end ≤ length (now m)) × (length (now s) ≤ 36864) ⌝ }
     ensures { λ r. ⌜ r .end ≤ length (now (m .exit)) ⌝ }
-    ensures { λ _. ⌜ Within end (length (now (m .entry))) (now (m .entry)) (now (m .exit)) ⌝ }
-    ensures { λ _. ⌜ Within (done .state .end) (length (now (out .entry))) (now (out .entry)) (now (out .exit)) ⌝ }
-    ensures { λ r. ⌜ PassesIf 1 (now (s .entry)) (now (label .entry)) at left (now (m .entry)) end mark names opens (now (out .entry)) done r (now (m .exit)) ⌝ }
+    ensures { λ _. ⌜ Within (way .end) (length (now (m .entry))) (now (m .entry)) (now (m .exit)) ⌝ }
+    ensures { λ r. ⌜ Reaches (now (s .entry)) (now (m .entry)) way mark r (now (m .exit)) ⌝ }
 {
-    if bind::LAST_NAME < names {
-        return nowhere(end);
+    let mut on = way;
+    while goes(s, on, mark) {
+        on = step(s, on, m, mark);
     }
-    let last = bind::name(m, end, names);
-    reach(
-        s,
-        label,
-        at + 1,
-        left - 1,
-        m,
-        last,
-        mark,
-        names + 1,
-        opens,
-        out,
-        done,
-    )
-}
-
-// If: the branch that has the mark in it.
-fn branch(
-    s: &[u8],
-    label: &[u8],
-    at: usize,
-    left: usize,
-    m: &mut [u8],
-    end: usize,
-    mark: usize,
-    names: usize,
-    opens: usize,
-    out: &mut [u8],
-    done: Progress,
-) -> Reached
-    requires { ⌜ (1 ≤ left) × (at < length (now s)) × (end + 4606 ≤ length (now m)) × (length (now s) ≤ 12288) ⌝ }
-    ensures { λ r. ⌜ r .end ≤ length (now (m .exit)) ⌝ }
-    ensures { λ _. ⌜ Within end (length (now (m .entry))) (now (m .entry)) (now (m .exit)) ⌝ }
-    ensures { λ _. ⌜ Within (done .state .end) (length (now (out .entry))) (now (out .entry)) (now (out .exit)) ⌝ }
-    ensures { λ r. ⌜ PassesIf 4 (now (s .entry)) (now (label .entry)) at left (now (m .entry)) end mark names opens (now (out .entry)) done r (now (m .exit)) ⌝ }
-{
-    let first = ends::terms(s, at + 1, 2);
-    if place::holds(s, first, mark) {
-        return reach(
-            s,
-            label,
-            first,
-            left - 1,
-            m,
-            end,
-            mark,
-            names,
-            opens,
-            out,
-            done,
-        );
-    }
-    reach(
-        s,
-        label,
-        index::end(s, first),
-        left - 1,
-        m,
-        end,
-        mark,
-        names,
-        opens,
-        out,
-        done,
-    )
-}
-
-// Let: the message of the term is bound.
-fn bound(
-    s: &[u8],
-    label: &[u8],
-    at: usize,
-    left: usize,
-    m: &mut [u8],
-    end: usize,
-    mark: usize,
-    names: usize,
-    opens: usize,
-    out: &mut [u8],
-    done: Progress,
-) -> Reached
-    requires { ⌜ (1 ≤ left) × (at < length (now s)) × (end + 4606 ≤ length (now m)) × (length (now s) ≤ 12288) ⌝ }
-    ensures { λ r. ⌜ r .end ≤ length (now (m .exit)) ⌝ }
-    ensures { λ _. ⌜ Within end (length (now (m .entry))) (now (m .entry)) (now (m .exit)) ⌝ }
-    ensures { λ _. ⌜ Within (done .state .end) (length (now (out .entry))) (now (out .entry)) (now (out .exit)) ⌝ }
-    ensures { λ r. ⌜ PassesIf 5 (now (s .entry)) (now (label .entry)) at left (now (m .entry)) end mark names opens (now (out .entry)) done r (now (m .exit)) ⌝ }
-{
-    match bind::term(s, at + 1, m, 0, end) {
-        Worked::Done(next, last) => reach(
-            s,
-            label,
-            next,
-            left - 1,
-            m,
-            last,
-            mark,
-            names,
-            opens,
-            out,
-            done,
-        ),
-        Worked::TooLarge => nowhere(end),
-    }
-}
-
-// Par: the side that has the mark in it.
-fn side(
-    s: &[u8],
-    label: &[u8],
-    at: usize,
-    left: usize,
-    m: &mut [u8],
-    end: usize,
-    mark: usize,
-    names: usize,
-    opens: usize,
-    out: &mut [u8],
-    done: Progress,
-) -> Reached
-    requires { ⌜ (1 ≤ left) × (at < length (now s)) × (end + 4606 ≤ length (now m)) × (length (now s) ≤ 12288) ⌝ }
-    ensures { λ r. ⌜ r .end ≤ length (now (m .exit)) ⌝ }
-    ensures { λ _. ⌜ Within end (length (now (m .entry))) (now (m .entry)) (now (m .exit)) ⌝ }
-    ensures { λ _. ⌜ Within (done .state .end) (length (now (out .entry))) (now (out .entry)) (now (out .exit)) ⌝ }
-    ensures { λ r. ⌜ PassesIf 6 (now (s .entry)) (now (label .entry)) at left (now (m .entry)) end mark names opens (now (out .entry)) done r (now (m .exit)) ⌝ }
-{
-    if place::holds(s, at + 1, mark) {
-        return reach(
-            s,
-            label,
-            at + 1,
-            left - 1,
-            m,
-            end,
-            mark,
-            names,
-            opens,
-            out,
-            done,
-        );
-    }
-    other(s, label, at, left, m, end, mark, names, opens, out, done)
-}
-
-// The second side, which is settled after the names of the first.
-fn other(
-    s: &[u8],
-    label: &[u8],
-    at: usize,
-    left: usize,
-    m: &mut [u8],
-    end: usize,
-    mark: usize,
-    names: usize,
-    opens: usize,
-    out: &mut [u8],
-    done: Progress,
-) -> Reached
-    requires { ⌜ (1 ≤ left) × (at < length (now s)) × (end + 4606 ≤ length (now m)) × (length (now s) ≤ 12288) ⌝ }
-    ensures { λ r. ⌜ r .end ≤ length (now (m .exit)) ⌝ }
-    ensures { λ _. ⌜ Within end (length (now (m .entry))) (now (m .entry)) (now (m .exit)) ⌝ }
-    ensures { λ _. ⌜ Within (done .state .end) (length (now (out .entry))) (now (out .entry)) (now (out .exit)) ⌝ }
-    ensures { λ r. ⌜ OtherPasses (now (s .entry)) (now (label .entry)) at left (now (m .entry)) end mark names opens (now (out .entry)) done r (now (m .exit)) ⌝ }
-{
-    let later = count::taken(s, at + 1, left - 1, m, end, names);
-    reach(
-        s,
-        label,
-        index::end(s, at + 1),
-        left - 1,
-        m,
-        end,
-        mark,
-        later,
-        opens,
-        out,
-        done,
-    )
-}
-
-// Repl: the copy, opened at a private name. Copies inside it open after its names.
-fn copy(
-    s: &[u8],
-    label: &[u8],
-    at: usize,
-    left: usize,
-    m: &mut [u8],
-    end: usize,
-    mark: usize,
-    opens: usize,
-    out: &mut [u8],
-    done: Progress,
-) -> Reached
-    requires { ⌜ (1 ≤ left) × (at < length (now s)) × (end + 4606 ≤ length (now m)) × (length (now s) ≤ 12288) ⌝ }
-    ensures { λ r. ⌜ r .end ≤ length (now (m .exit)) ⌝ }
-    ensures { λ _. ⌜ Within end (length (now (m .entry))) (now (m .entry)) (now (m .exit)) ⌝ }
-    ensures { λ _. ⌜ Within (done .state .end) (length (now (out .entry))) (now (out .entry)) (now (out .exit)) ⌝ }
-    ensures { λ r. ⌜ CopyPasses (now (s .entry)) (now (label .entry)) at left (now (m .entry)) end mark opens (now (out .entry)) done r (now (m .exit)) ⌝ }
-{
-    let later = count::taken(s, at + 1, left - 1, m, end, opens);
-    reach(
-        s,
-        label,
-        at + 1,
-        left - 1,
-        m,
-        end,
-        mark,
-        opens,
-        later,
-        out,
-        done,
-    )
+    on
 }

@@ -1,22 +1,22 @@
 -- The step after one, and the state that it leads to ("Steps"; "Judging and its count"). Assumes nothing.
 use mathlib.Core.Path.{_≡_, refl, sym, ap, subst, _∙_}
+use mathlib.Core.Bool.{Bool}
 use mathlib.Core.List.{List, [], _∷_, _++_, append-assoc}
 use Prim.Native.Nat.{ℕ, _+_, _-_, _≤_, _<_}
 use native.Mathlib.Omega.{arith}
 use lib.ListN.{length, take, drop, length-append}
 use Rattle.meaning.specs.Messages.Term.{Message}
-use Rattle.meaning.specs.Bytes.Standing.{Stands}
 use Rattle.meaning.specs.Steps.State.{State}
 use Rattle.meaning.proofs.Every.{every-parts}
 use Rattle.nodes.specs.Buffer.{Within}
-use Rattle.nodes.proofs.Laws.Buffer.{part, lent}
+use Rattle.nodes.proofs.Laws.Buffer.{part}
 use Rattle.states.specs.declared.state.State as code
 use Rattle.forms.specs.Visit.{Labelled}
 use Rattle.forms.specs.declared.form.Formed.{Formed}
 use Rattle.positions.proofs.Laws.Everywhere.{every-first}
 use Rattle.moves.specs.Moves.{Move}
 use Rattle.moves.specs.Held.{Held}
-use Rattle.moves.specs.Step.{stepOf, runOf, Shown}
+use Rattle.moves.specs.Step.{stepOf, runOf}
 use Rattle.moves.specs.Behind.{movesOf, Behind, all, later, Searching}
 use Rattle.moves.specs.Moving.{carried, Leading, Moving}
 use Rattle.moves.specs.declared.step.Step as step
@@ -24,8 +24,9 @@ use Rattle.moves.specs.declared.step.Label.{Label}
 use Rattle.moves.specs.declared.step.Label.the-variants.{Output, Input, Silent}
 use Rattle.moves.specs.declared.step.Next.{Next}
 use Rattle.moves.specs.declared.step.Next.the-variants as next
+use Rattle.steps.specs.Kept.{Answered}
 use Rattle.steps.specs.Next.{Nexts}
-use Rattle.successors.specs.Lead.{Leads}
+use Rattle.successors.specs.Lead.{LeadsFor}
 use Rattle.successors.proofs.Laws.Leads.{held-kept}
 use Rattle.arrivals.specs.Arrive.{Taken, Leaving, Leaves, Sends, ArrivedAt, Arrives}
 use Rattle.arrivals.specs.declared.arrive.Arrived.the-variants.{By, None}
@@ -51,8 +52,8 @@ moving h y w l g = record {
 }
 
 -- Where a step leads.
-module _ {s message m out after : List ℕ} {st : code.State} {v : step.Step} {r : Formed} where
-  pub leaves-input : {taken : List ℕ} → v .label ≡ Input → Leads s st v taken m out r after → Leaves s taken message st v m out r after
+module _ {quiet : Bool} {s message m out after : List ℕ} {st : code.State} {v : step.Step} {r : Formed} where
+  pub leaves-input : {taken : List ℕ} → v .label ≡ Input → LeadsFor quiet s st v taken m out r after → Leaves quiet s taken message st v m out r after
   leaves-input {taken} e d = record {
     exact = λ S h y w l room.
         let f = sending h (v .label) (l .channel) y (l .earlier) (l .others) w (l .listed) in
@@ -61,8 +62,8 @@ module _ {s message m out after : List ℕ} {st : code.State} {v : step.Step} {r
   }
 
   -- A message that is sent is at the front of its slice.
-  pub sends-part : {size : ℕ} → Leads s st v (take (size - 0) (drop 0 message)) m out r after → v .size ≡ size
-      → Sends s message st v m out r after
+  pub sends-part : {size : ℕ} → LeadsFor quiet s st v (take (size - 0) (drop 0 message)) m out r after → v .size ≡ size
+      → Sends quiet s message st v m out r after
   sends-part {size} d e = record {
     exact = λ n taken. record {
       exact = λ S h y w l room.
@@ -73,7 +74,7 @@ module _ {s message m out after : List ℕ} {st : code.State} {v : step.Step} {r
     };
   }
 
-  pub sends-none : length message < v .size → Sends s message st v m out r after
+  pub sends-none : length message < v .size → Sends quiet s message st v m out r after
   sends-none short = record {
     exact = λ n taken. record {
       exact = λ S h y w l room.
@@ -83,10 +84,10 @@ module _ {s message m out after : List ℕ} {st : code.State} {v : step.Step} {r
     };
   }
 
-  pub leaves-output : {taken : List ℕ} → v .label ≡ Output → Sends s message st v m out r after → Leaves s taken message st v m out r after
+  pub leaves-output : {taken : List ℕ} → v .label ≡ Output → Sends quiet s message st v m out r after → Leaves quiet s taken message st v m out r after
   leaves-output {taken} e d = d .exact (λ i. absurd (let z : _≡_ {A = ℕ} 0 1 = cc in omega arith)) taken
 
-  pub leaves-silent : {taken : List ℕ} → v .label ≡ Silent → Sends s message st v m out r after → Leaves s taken message st v m out r after
+  pub leaves-silent : {taken : List ℕ} → v .label ≡ Silent → Sends quiet s message st v m out r after → Leaves quiet s taken message st v m out r after
   leaves-silent {taken} e d = d .exact (λ i. absurd (let z : _≡_ {A = ℕ} 0 1 = cc in omega arith)) taken
 
 pub ruleset leavings = (leaves-input, leaves-output, leaves-silent, sends-part, sends-none)
@@ -102,37 +103,36 @@ searching : {s m out message : List ℕ} {st : code.State} {S : State} → 510 �
 searching long o = record { short = o .short; wide = o .wide; room = omega (arith, o .room); long = long }
 
 -- The next step, and then where it leads.
-module _ {s channel m out message : List ℕ} {st : code.State} {from : step.Step} {r : Next} {said : List ℕ}
-    (n : Nexts s channel st from m out message r said) (long : 510 ≤ length message) where
-  pub arrives-none : {taken after : List ℕ} → r ≡ next.None → Arrives s channel taken st from m out None after
-  arrives-none {taken} {after} e = record {
-    exact = λ S x y h c t o {others} b. nowhere S h y others (n .exact S x h c (searching long o) b);
+module _ {s channel m out held message : List ℕ} {st : code.State} {from : step.Step} {r : Next} {on said : List ℕ}
+    (n : Nexts s channel st from m out held message r on said) where
+  pub arrives-none : {quiet : Bool} {taken after : List ℕ} → r ≡ next.None → Arrives quiet s channel taken st from m out held message None after on said
+  arrives-none {quiet} {taken} {after} e = record {
+    exact = λ S x y h c t o wide long {others} b. nowhere S h y others (n .exact S x h c (searching long o) wide b);
   }
     where
-      nowhere : (S : State) (h : Held s out st S) (y : Message) (others : List Move) → Shown (st .start) said r others
-          → ArrivedAt s st S (h .at .placed) y None after others
+      nowhere : (S : State) (h : Held s out st S) (y : Message) (others : List Move) → Answered (st .start) on said r others
+          → ArrivedAt quiet s st S (h .at .placed) y None after on said others
       nowhere S h y [] d = refl
       nowhere S h y (w ∷ others) d = absurd (let z : _≡_ {A = ℕ} 0 1 = cc in omega arith)
 
-  pub arrives-by : {taken m₁ out₁ after : List ℕ} {v : step.Step} {f : Formed} {high high₁ : ℕ} → r ≡ next.Found v
-      → Within 0 high m m₁ → Within (st .end) high₁ out out₁ → Leaves s taken (take (510 - 0) (drop 0 said)) st v m₁ out₁ f after
-      → Arrives s channel taken st from m out (By v f) after
+  pub arrives-by : {quiet : Bool} {taken m₁ out₁ after : List ℕ} {v : step.Step} {f : Formed} {high high₁ : ℕ} → r ≡ next.Found v
+      → Within 0 high m m₁ → Within (st .end) high₁ out out₁ → Leaves quiet s taken said st v m₁ out₁ f after
+      → Arrives quiet s channel taken st from m out held message (By v f) after on said
   unfolding held-kept
-  arrives-by {taken} {m₁} {out₁} {after} {v} {f} e wm wo d = record {
-    exact = λ S x y h c t o {others} b. by S x y h t o others b (n .exact S x h c (searching long o) b);
+  arrives-by {quiet} {taken} {m₁} {out₁} {after} {v} {f} e wm wo d = record {
+    exact = λ S x y h c t o wide long {others} b. by S x y h t o others (b .behind) (n .exact S x h c (searching long o) wide b);
   }
     where
       by : (S : State) (x y : Message) (h : Held s out st S) → Taken S taken (from .label) y → Leading s st S m out → (others : List Move)
           → Behind (from .label) (st .start) (movesOf (from .label) x (S .next) (h .at .placed)) from others
-          → Shown (st .start) said r others → ArrivedAt s st S (h .at .placed) y (By v f) after others
+          → Answered (st .start) on said r others → ArrivedAt quiet s st S (h .at .placed) y (By v f) after on said others
       by S x y h t o [] b d = absurd (let z : _≡_ {A = ℕ} 0 1 = cc in omega arith)
-      by S x y h t o (w ∷ others) b (g, run) =
+      by S x y h t o (w ∷ others) b (g, kept) =
           let same : v ≡ stepOf (st .start) w = cc in
           let (earlier, there) = listed b in
           let sends = sending h (from .label) x y earlier others w there in
           let label : from .label ≡ v .label = sym (sends .label) ∙ sym (ap (λ u. u .label) same) in
-          let size : length (runOf w) - 0 ≡ length (runOf w) = omega arith in
-          let leaving : Leaving s out₁ st S (held-kept wo h) v taken (take (510 - 0) (drop 0 said)) y w =
+          let leaving : Leaving s out₁ st S (held-kept wo h) v taken said y w =
           record {
             channel = x;
             earlier = earlier;
@@ -140,7 +140,7 @@ module _ {s channel m out message : List ℕ} {st : code.State} {from : step.Ste
             listed = subst (λ (l : Label). movesOf l x (S .next) (h .at .placed) ≡ earlier ++ (w ∷ others)) label there;
             same = same;
             taking = subst (λ (l : Label). Taken S taken l y) label t;
-            sent = subst (λ (n : ℕ). Stands (take (510 - 0) (drop 0 said)) 0 (runOf w) n) size (lent run (sends .short));
+            sent = kept .sent;
           } in
           let room : Leading s st S m₁ out₁ =
           record {
@@ -149,6 +149,4 @@ module _ {s channel m out message : List ℕ} {st : code.State} {from : step.Ste
             room = omega (arith, o .room, wo .long);
             few = o .few;
           } in
-          (f, rw same, d .exact S (held-kept wo h) y w leaving room)
-
-pub ruleset arrivings = (arrives-none, arrives-by)
+          (f, rw same, d .exact S (held-kept wo h) y w leaving room, kept)

@@ -116,7 +116,7 @@ module _ {s label m out after : List ℕ} {begin : ℕ} {f : State} {w : Progres
     standing = none;
   })
 
-  ready : (P : Process) → ModelIn s P → length s ≤ 12288 → 10750 ≤ length m → label ≡ 16 ∷ 0 ∷ [] → Ready s label 0 64 m 0 Settle P (leaf (public 0)) [] empty
+  ready : (P : Process) → ModelIn s P → length s ≤ 36864 → 10750 ≤ length m → label ≡ 16 ∷ 0 ∷ [] → Ready s label 0 64 m 0 Settle P (leaf (public 0)) [] empty
   unfolding encodeBound encodeMessage encodeNode normal
   ready P w short l e = record {
     next = w .next;
@@ -176,7 +176,7 @@ module _ {s label m out after : List ℕ} {begin : ℕ} {f : State} {w : Progres
   }
   by-limits P false e d = by-names P (ltb 128 (names P [] 0)) e refl d
 
-  pub start-formed : length s ≤ 12288 → 10750 ≤ length m → label ≡ 16 ∷ 0 ∷ [] → begin + 3964 ≤ length out → Starts s begin r after
+  pub start-formed : length s ≤ 36864 → 10750 ≤ length m → label ≡ 16 ∷ 0 ∷ [] → begin + 3964 ≤ length out → Starts s begin r after
   start-formed short l e o = record {
     exact = λ P y. by-limits P (overSettled P [] empty) refl (
         rw (← settles P (leaf (public 0)) 0 [] empty none (omega arith) (omega arith)) (v .walks .exact P (leaf (public 0)) [] empty (ready P y short l e) (begins o))

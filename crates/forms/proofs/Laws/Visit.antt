@@ -21,6 +21,8 @@ use Rattle.states.specs.Shown.{Shows, ShowsCourse}
 use Rattle.walks.specs.Walk.{NamesFit, Meant, Walks}
 use Rattle.states.specs.Stored.{Loads}
 use Rattle.threads.specs.declared.task.Task.{Task}
+use Rattle.threads.specs.declared.task.Task.the-variants.{Build}
+use Rattle.threads.specs.declared.task.Plan.{Plan}
 use Rattle.states.specs.declared.stored.Loaded.{Loaded}
 use Rattle.states.specs.declared.progress.Progress.{Progress}
 use Rattle.states.proofs.Laws.Progress.{to-end}
@@ -49,7 +51,7 @@ news-short (Process.par P Q) = omega (arith, news-short P, news-short Q, length-
 news-short (Process.repl P) = omega (arith, news-short P)
 
 -- Small names fit whatever process stands in a model.
-pub names-small : {s : List ℕ} {at left scope next : ℕ} (T : Task) (n : ℕ) (P : Process) → ProcessAt s at left scope P next → length s ≤ 12288
+pub names-small : {s : List ℕ} {at left scope next : ℕ} (T : Task) (n : ℕ) (P : Process) → ProcessAt s at left scope P next → length s ≤ 36864
     → NamesSmall T n → NamesFit T n P
 names-small T n P p l (a also rest) =
     let few : news P ≤ 4096 = omega (arith, news-short P, p .stands .size, p .inside) in
@@ -65,7 +67,7 @@ pub visited : {s label m m₁ out after : List ℕ} {at : ℕ} {T : Task} {now r
     → Within 0 (l .end) m m₁ → Walks s label (l .place) 64 m₁ (l .end) T out now r after → Visits s label at m T out now r after
 visited {s} {label} {m} {m₁} {out} {after} {at} {T} {now} {r} {l} d w v = record { exact = one }
   where
-    one : (t : Placed) (x : Message) (g : Going) {next : ℕ} → RecordAt s out at t next → Labelled label x → length s ≤ 12288
+    one : (t : Placed) (x : Message) (g : Going) {next : ℕ} → RecordAt s out at t next → Labelled label x → length s ≤ 36864
         → 10750 ≤ length m → NamesSmall T (g .names) → Meant s T → Shows s out now g
         → ShowsCourse s after r (go (processOf (t .thread)) T x (t .place) (boundOf (t .thread)) g)
     one t x g h i short room names meant shows =
@@ -88,6 +90,14 @@ visited {s} {label} {m} {m₁} {out} {after} {at} {T} {now} {r} {l} d w v = reco
           fits = names-small T (g .names) P (h .standing .process) short names;
           meant = meant;
         }) shows)
+
+-- By the walk that builds, where that is the task.
+pub visited-built : {s label m m₁ out after : List ℕ} {at k : ℕ} {T : Task} {b : Plan} {now r : Progress} {l : Loaded} → T ≡ Build b k
+    → Loads out at l m₁ → Within 0 (l .end) m m₁ → Walks s label (l .place) 64 m₁ (l .end) (Build b k) out now r after
+    → Visits s label at m T out now r after
+visited-built e d w v = rw e (visited d w v)
+
+pub ruleset visits = (visited, visited-built)
 
 -- Nothing has been written yet.
 pub begins-shown : {s out : List ℕ} {to n : ℕ} (now : Progress) → Begins to n now → to + 3964 ≤ length out → Shows s out now (nothingYet n)

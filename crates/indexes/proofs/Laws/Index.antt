@@ -1,40 +1,33 @@
--- The index of a model as it is built, from the ends of processes up ("Bytes"). Assumes nothing.
+-- The index of a model as it is built, from the entries of processes up ("Bytes"). Assumes nothing.
 use mathlib.Core.Path.{_≡_, sym, ap, _∙_}
-use mathlib.Core.List.{List, [], _∷_, _++_, append-nil}
-use Prim.Native.Nat.{ℕ, _+_, _-_, _*_, _%_, _/_, _≤_, _<_}
+use mathlib.Core.List.{List, [], _∷_, append-nil}
+use Prim.Native.Nat.{ℕ, _+_, _-_, _%_, _≤_}
 use native.Mathlib.Nat.{mod-eq-of-lt, zero-add}
 use native.Mathlib.Omega.{arith}
-use lib.ListN.{length, getD, set, length-append, length-drop}
+use lib.ListN.{length, getD, length-append}
 use lib.Seq.{paste}
-use Rattle.meaning.specs.Messages.Term.{Term}
 use Rattle.meaning.specs.Bytes.Process.{output, input, Process, nil, new, act, if, let-in, par, repl}
 use Rattle.meaning.specs.Bytes.Encoding.{encodeTerm, encodeProcess}
 use Rattle.meaning.specs.Bytes.Nesting.{processDepth}
 use Rattle.meaning.specs.Bytes.Standing.{Stands}
 use Rattle.meaning.proofs.Bytes.Reading.Place.{parts as parts-of}
 use Rattle.nodes.specs.Buffer.{Within}
-use Rattle.nodes.specs.Encoding.{encodeNode, numberAt}
-use Rattle.nodes.proofs.Laws.Buffer.{kept, kept-above, node-within, node-stands, put-stands, one-after, unchanged, wider}
-use Rattle.nodes.proofs.Laws.Walk.{node-number}
+use Rattle.nodes.proofs.Laws.Buffer.{kept, kept-above, put-stands, one-after, unchanged}
 use Rattle.layouts.specs.declared.layout.Layout.{Layout}
 use Rattle.layouts.specs.Layout.{fields, parts, layoutOf, processLayouts}
 use Rattle.layouts.specs.Ends.{row, RowEnd}
 use Rattle.layouts.proofs.Laws.Standing.{first-byte}
 use Rattle.layouts.proofs.Laws.Ends.{processes}
 use Rattle.layouts.proofs.Laws.Table.{two-at-most}
-use Rattle.indexes.proofs.Laws.Kept.{bytes, Leaves, inside, indexed-kept}
-use Rattle.indexes.specs.Index.{entryAt, EntryOf, Noted, Indexed, InModel, Ends, Notes, Indexes, IndexedRow, DeepRow, IndexesRow, Builds}
+use Rattle.indexes.specs.declared.entry.Entry.{Entry}
+use Rattle.indexes.specs.Entry.{entry, entryOf, rowOf, Small, Joins, IsNode}
+use Rattle.indexes.specs.Index.{entryAt, EntryOf, Noted, Indexed, Notes, Indexes, IndexedRow, DeepRow, IndexesRow, Builds}
+use Rattle.indexes.proofs.Laws.Kept.{bytes, one-term, two-terms, Leaves, inside, indexed-kept}
+use Rattle.indexes.proofs.Laws.Entry.{small-entry, small-row, node-entry}
 
 -- Indexed at a position that is given in another way.
 moved : (s : List ℕ) (P : Process) (at there : ℕ) → at ≡ there → Indexed s at P → Indexed s there P
 moved s P at there e i = rw e at i
-
--- The terms of a node, one or two.
-one-term : (at : ℕ) (M : Term) → at + length (row encodeTerm (M ∷ [])) ≡ at + length (encodeTerm M)
-one-term at M = omega (arith, length-append (encodeTerm M) [])
-
-two-terms : (at : ℕ) (M N : Term) → at + length (row encodeTerm (M ∷ N ∷ [])) ≡ at + length (encodeTerm M) + length (encodeTerm N)
-two-terms at M N = omega (arith, length-append (encodeTerm M) (encodeTerm N ++ []), length-append (encodeTerm N) [])
 
 -- A node in the index is its own entry and those of its parts.
 module _ (s : List ℕ) where
@@ -73,13 +66,14 @@ depth (par P Q) = omega arith
 depth (repl P) = omega arith
 
 -- What stands behind the kind and the terms of a node.
-record Behind (s : List ℕ) (at r : ℕ) (l : Layout) (P : Process) (end : ℕ) : Type 0 where
+record Behind (s : List ℕ) (at k r : ℕ) (l : Layout) (P : Process) (end : ℕ) : Type 0 where
+  kind : k ≡ processes P .kind
   own : r ≡ at + 1 + length (row encodeTerm (processes P .own))
   stands : Stands s r (row encodeProcess (processes P .inner)) end
   many : length (processes P .inner) ≡ parts l
 
 behind : {s : List ℕ} {at b r end : ℕ} {l : Layout} (P : Process) → b ≡ getD s at 0 → l ≡ layoutOf processLayouts (b % 8)
-    → RowEnd encodeTerm s (at + 1) (fields l) r → Stands s at (encodeProcess P) end → Behind s at r l P end
+    → RowEnd encodeTerm s (at + 1) (fields l) r → Stands s at (encodeProcess P) end → Behind s at (b % 8) r l P end
 behind {s} {at} {b} {r} {l = l} P k g o p =
     let N = processes P in
     let (first, q, (mid, f, t)) =
@@ -88,14 +82,14 @@ behind {s} {at} {b} {r} {l = l} P k g o p =
     let same : l ≡ layoutOf processLayouts (N .kind) = rw kind at g in
     let second : first ≡ at + 1 = q .size in
     let ends : r ≡ mid = o .same (record { trees = N .own; many = N .owned ∙ sym (ap fields same); there = rw second at f }) in
-    record { own = omega (arith, f .size); stands = rw (← ends) at t; many = N .parted ∙ sym (ap parts same) }
+    record { kind = kind; own = omega (arith, f .size); stands = rw (← ends) at t; many = N .parted ∙ sym (ap parts same) }
 
 -- The entries of positions that a call does not reach.
 low-left : {s t : List ℕ} {low high from to : ℕ} → Within low high s t → entryAt to ≤ low → Leaves s t from to
-low-left {low = low} w h = record { entry = λ q end l g e. kept {low = low} e (omega arith) (w .below) }
+low-left {low = low} w h = record { entry = λ q n l g e. kept {low = low} e (omega arith) (w .below) }
 
 high-left : {s t : List ℕ} {low high from to : ℕ} → Within low high s t → high ≤ entryAt from → Leaves s t from to
-high-left {high = high} w h = record { entry = λ q end l g e. kept-above {high = high} e (omega arith) (w .above) }
+high-left {high = high} w h = record { entry = λ q n l g e. kept-above {high = high} e (omega arith) (w .above) }
 
 row-kept : {s t : List ℕ} (Ps : List Process) (at : ℕ) → Leaves s t at (at + length (row encodeProcess Ps)) → IndexedRow s at Ps → IndexedRow t at Ps
 row-kept [] at k i = tt
@@ -105,140 +99,92 @@ row-kept (P ∷ Ps) at k i =
       row-kept Ps (at + length (encodeProcess P)) (inside k (omega arith) (omega (arith, long))) (i .1),
     )
 
--- The end of a process, from its entry.
-own-entry : (s : List ℕ) (at : ℕ) (P : Process) → Indexed s at P → Noted s at P
-own-entry s at nil i = i
-own-entry s at (new P) i = i .0
-own-entry s at (act (output C M) P) i = i .0
-own-entry s at (act (input C) P) i = i .0
-own-entry s at (if M N P Q) i = i .0
-own-entry s at (let-in M P) i = i .0
-own-entry s at (par P Q) i = i .0
-own-entry s at (repl P) i = i .0
-
-module _ {s : List ℕ} {at : ℕ} where
-  noted-end : {r end : ℕ} (P : Process) → r ≡ numberAt s (entryAt at) → InModel s at P end → r ≡ end
-  noted-end P n p = n ∙ node-number (at + length (encodeProcess P)) (own-entry s at P (p .indexed)) ∙ sym (p .stands .size)
-
-  pub no-entry : 4096 ≤ at → Ends s at at
-  no-entry h = record { same = λ P p. absurd (omega (arith, p .stands .size, p .inside, bytes P)) }
-
-  pub no-index : length s < 4096 + 2 * at + 2 → Ends s at at
-  unfolding encodeNode
-  no-index h = record {
-    same = λ P p.
-        let n = own-entry s at P (p .indexed) in
-        absurd (omega (arith, length-drop (entryAt at) s, ap length (n .bytes), n .size));
-  }
-
-  pub too-low : {v : ℕ} → v ≡ numberAt s (4096 + 2 * at) → v < at → Ends s at at
-  too-low n h = record { same = λ P p. absurd (omega (arith, noted-end P n p, p .stands .size)) }
-
-  pub is-noted : {v : ℕ} → v ≡ numberAt s (4096 + 2 * at) → Ends s at v
-  is-noted n = record { same = λ P p. noted-end P n p }
-
-pub ruleset endings = (no-index, no-entry, too-low, is-noted)
-
--- An entry that is written, or not.
-module _ {s : List ℕ} {at end : ℕ} where
-  pub none-behind : 4096 ≤ at → Notes s at end s
-  none-behind h = record { own = λ l. unchanged; noted = λ l e. absurd (omega arith) }
-
-  pub none-so-far : 4096 < end → Notes s at end s
-  none-so-far h = record { own = λ l. absurd (omega arith); noted = λ l e. absurd (omega arith) }
-
-module _ (s : List ℕ) (at end : ℕ) {after : List ℕ} (e : after ≡ set (set s (4096 + 2 * at) (end % 256)) (4096 + 2 * at + 1) (end / 256))
-    (l : length s ≡ 12288) (h : at < 4096) where
-  pub entered : Notes s at end after
-  entered = record {
-    own = λ g. node-within s (entryAt at) end e (omega arith);
-    noted = λ g k. node-stands s (entryAt at) end e (omega arith);
-  }
-
-  pub entry-within : Within 4096 12288 s after
-  entry-within = wider (node-within s (entryAt at) end e (omega arith)) (omega arith) (omega arith)
-
-pub ruleset entries = (none-behind, none-so-far, entered, entry-within, unchanged)
-
 -- A node, from its parts.
 module _ {s : List ℕ} {at left : ℕ} where
-  pub no-node-left : {r : ℕ} → left ≡ 0 → Indexes s at left r s
+  pub no-node-left : {r : Entry} → left ≡ 0 → Indexes s at left r s
   no-node-left e = record { exact = λ P p d h. absurd (omega (arith, depth P)) }
 
-  pub nothing-there : {r : ℕ} → 4096 ≤ at → Indexes s at left r s
+  pub nothing-there : {r : Entry} → 4096 ≤ at → Indexes s at left r s
   nothing-there l = record { exact = λ P p d h. absurd (omega (arith, p .size, bytes P)) }
 
-  pub node-indexed : {b own r : ℕ} {l : Layout} {s₁ s₂ : List ℕ} → b ≡ getD s at 0 → l ≡ layoutOf processLayouts (b % 8)
-      → RowEnd encodeTerm s (at + 1) (fields l) own → IndexesRow s own (left - 1) (parts l) r s₁ → Notes s₁ at r s₂ → Indexes s at left r s₂
-  node-indexed {b} {own} {r} {l} {s₁} {s₂} k g o i n = record { exact = one }
+  pub node-indexed : {b own : ℕ} {f r : Entry} {l : Layout} {s₁ s₂ : List ℕ} → b ≡ getD s at 0 → l ≡ layoutOf processLayouts (b % 8)
+      → RowEnd encodeTerm s (at + 1) (fields l) own → IndexesRow s own (left - 1) (parts l) f s₁ → IsNode (b % 8) at f r → Notes s₁ at r s₂
+      → Indexes s at left r s₂
+  node-indexed {b} {own} {f} {r} {l} {s₁} {s₂} k g o i x n = record { exact = one }
     where
       one : (P : Process) {end : ℕ} → Stands s at (encodeProcess P) end → processDepth P ≤ left → end ≤ 4096
-          → (r ≡ end) × Indexed s₂ at P × Within (entryAt at) (entryAt end) s s₂
+          → (r ≡ entryOf at P) × Indexed s₂ at P × Within (entryAt at) (entryAt end) s s₂
       one P {end} p d h =
           let B = behind P k g o p in
           let few : parts l ≤ 2 = two-at-most processLayouts tt (b % 8) g in
-          let (ends, inner, frame) = i .exact (processes P .inner) (B .many) few (B .stands) (deep-parts P d) h in
+          let (parts-are, inner, frame) = i .exact (processes P .inner) (B .many) few (B .stands) (deep-parts P d) h in
           let long : at + length (encodeProcess P) ≡ end = sym (p .size) in
-          let here : at + 1 ≤ r = omega (arith, bytes P) in
-          let mine = n .own (omega arith) in
-          let entry : EntryOf s₂ at r = n .noted here (omega arith) in
+          let little : Small f = rw parts-are (small-row (processes P .inner) own (omega (arith, B .many)) (omega (arith, B .stands .size))) in
+          let is : r ≡ entryOf at P = x .exact little ∙ rw (parts-are, B .kind) (node-entry P at (B .own)) in
+          let entry : EntryOf s₂ at r = n .noted (omega (arith, bytes P)) (rw is (small-entry P at (omega arith))) in
           let after : at + 1 ≤ own = omega (arith, B .own) in
-          let rows : IndexedRow s₂ own (processes P .inner) = row-kept (processes P .inner) own (high-left mine (omega arith)) inner in (
-            ends,
-            indexed-node s₂ P at (rw (ends ∙ sym long) at entry) (rw (B .own) at rows),
-            one-after frame mine (omega arith) (omega arith) (omega arith) (omega arith),
+          let rows : IndexedRow s₂ own (processes P .inner) = row-kept (processes P .inner) own (high-left (n .own) (omega arith)) inner in (
+            is,
+            indexed-node s₂ P at (rw is at entry) (rw (B .own) at rows),
+            one-after frame (n .own) (omega arith) (omega arith) (omega arith) (omega (arith, bytes P)),
           )
 
 pub ruleset indexing = (no-node-left, nothing-there, node-indexed)
 
 -- Processes in a row: none, one or two.
 module _ {s : List ℕ} {at left : ℕ} where
-  pub row-none : {count : ℕ} → count ≡ 0 → IndexesRow s at left count at s
-  row-none {count} e = record { exact = λ Ps m f p d h. only Ps (m ∙ e) p }
+  pub row-none : {count : ℕ} {r : Entry} → count ≡ 0 → r ≡ entry at 0 0 1 → IndexesRow s at left count r s
+  row-none {count} {r} e z = record { exact = λ Ps m f p d h. only Ps (m ∙ e) p }
     where
       only : (Ps : List Process) {end : ℕ} → length Ps ≡ 0 → Stands s at (row encodeProcess Ps) end
-          → (at ≡ end) × IndexedRow s at Ps × Within (entryAt at) (entryAt end) s s
-      only [] m p = (omega (arith, p .size), tt, unchanged)
+          → (r ≡ rowOf at Ps) × IndexedRow s at Ps × Within (entryAt at) (entryAt end) s s
+      only [] m p = (z, tt, unchanged)
       only (P ∷ Ps) m p = absurd (omega arith)
 
-  pub row-one : {count r : ℕ} {s₁ : List ℕ} → count ≡ 1 → Indexes s at left r s₁ → IndexesRow s at left count r s₁
+  pub row-one : {count : ℕ} {r : Entry} {s₁ : List ℕ} → count ≡ 1 → Indexes s at left r s₁ → IndexesRow s at left count r s₁
   row-one {count} {r} {s₁} e i = record { exact = λ Ps m f p d h. only Ps (m ∙ e) p d h }
     where
       only : (Ps : List Process) {end : ℕ} → length Ps ≡ 1 → Stands s at (row encodeProcess Ps) end → DeepRow left Ps → end ≤ 4096
-          → (r ≡ end) × IndexedRow s₁ at Ps × Within (entryAt at) (entryAt end) s s₁
+          → (r ≡ rowOf at Ps) × IndexedRow s₁ at Ps × Within (entryAt at) (entryAt end) s s₁
       only [] m p d h = absurd (omega arith)
-      only (P ∷ []) m p d h = let (ends, own, frame) = i .exact P (rw append-nil at p) (d .0) h in (ends, (own, tt), frame)
+      only (P ∷ []) m p d h = let (is, own, frame) = i .exact P (rw append-nil at p) (d .0) h in (is, (own, tt), frame)
       only (P ∷ Q ∷ Ps) m p d h = absurd (omega arith)
 
-  pub row-two : {count mid r : ℕ} {s₁ s₂ : List ℕ} → (count ≡ 0 → ⊥) → (count ≡ 1 → ⊥) → Indexes s at left mid s₁ → Within 4096 12288 s s₁
-      → Indexes s₁ mid left r s₂ → IndexesRow s at left count r s₂
-  row-two {count} {mid} {r} {s₁} {s₂} f₀ f₁ i w j = record { exact = λ Ps m f p d h. only Ps (m ∙ two f) p d h }
+  pub row-two : {count : ℕ} {e f r : Entry} {s₁ s₂ : List ℕ} → (count ≡ 0 → ⊥) → (count ≡ 1 → ⊥) → Indexes s at left e s₁
+      → Within 4096 36864 s s₁ → Indexes s₁ (e .end) left f s₂ → Joins e f r → IndexesRow s at left count r s₂
+  row-two {count} {e} {f} {r} {s₁} {s₂} f₀ f₁ i w j x = record { exact = λ Ps m g p d h. only Ps (m ∙ two g) p d h }
     where
       two : count ≤ 2 → count ≡ 2
-      two f = omega (arith, f₀, f₁)
+      two g = omega (arith, f₀, f₁)
 
       only : (Ps : List Process) {end : ℕ} → length Ps ≡ 2 → Stands s at (row encodeProcess Ps) end → DeepRow left Ps → end ≤ 4096
-          → (r ≡ end) × IndexedRow s₂ at Ps × Within (entryAt at) (entryAt end) s s₂
+          → (r ≡ rowOf at Ps) × IndexedRow s₂ at Ps × Within (entryAt at) (entryAt end) s s₂
       only [] m p d h = absurd (omega arith)
       only (P ∷ []) m p d h = absurd (omega arith)
       only (P ∷ Q ∷ []) {end} m p d h =
-          let (last, x, y) = parts-of (encodeProcess P) (encodeProcess Q ∷ []) (rw append-nil at p) in
-          let (ends, own, frame) = i .exact P x (d .0) (omega (arith, y .size)) in
-          let still : Stands s₁ last (encodeProcess Q) end = kept {low = 4096} y h (w .below) in
-          let there : Stands s₁ mid (encodeProcess Q) end = rw (← ends) at still in
-          let (ends₂, own₂, frame₂) = j .exact Q there (d .1 .0) h in
-          let here : at + length (encodeProcess P) ≡ mid = omega (arith, x .size) in (
-            ends₂,
-            (indexed-kept P (low-left frame₂ (omega (arith, y .size))) own, (moved s₂ Q mid (at + length (encodeProcess P)) (sym here) own₂, tt)),
-            one-after frame frame₂ (omega arith) (omega (arith, x .size)) (omega (arith, y .size)) (omega arith),
+          let (last, y, z) = parts-of (encodeProcess P) (encodeProcess Q ∷ []) (rw append-nil at p) in
+          let (is, own, frame) = i .exact P y (d .0) (omega (arith, z .size)) in
+          let mid : e .end ≡ at + length (encodeProcess P) = ap (λ (k : Entry). k .end) is in
+          let still : Stands s₁ last (encodeProcess Q) end = kept {low = 4096} z h (w .below) in
+          let there : Stands s₁ (e .end) (encodeProcess Q) end = rw (y .size ∙ sym mid) at still in
+          let (is₂, own₂, frame₂) = j .exact Q there (d .1 .0) h in
+          let second : f ≡ entryOf (at + length (encodeProcess P)) Q = rw mid at is₂ in
+          let small : Small e = rw is (small-entry P at (omega (arith, y .size, z .size))) in
+          let small₂ : Small f = rw second (small-entry Q (at + length (encodeProcess P)) (omega (arith, y .size, z .size))) in (
+            x .exact small small₂ ∙ rw (is, second),
+            (
+              indexed-kept P (low-left frame₂ (omega (arith, y .size, z .size))) own,
+              (moved s₂ Q (e .end) (at + length (encodeProcess P)) mid own₂, tt),
+            ),
+            one-after frame frame₂ (omega arith) (omega (arith, y .size)) (omega (arith, z .size)) (omega arith),
           )
       only (P ∷ Q ∷ R ∷ Ps) m p d h = absurd (omega arith)
 
 pub ruleset rows = (row-none, row-one, row-two)
 
 -- The model put at the front, and its index.
-pub built : (s : List ℕ) {model s₁ s₂ : List ℕ} {r : ℕ} → s₁ ≡ paste s 0 model (length model) → length s ≡ 12288 → length model ≤ 4096
-    → Indexes s₁ 0 64 r s₂ → Within 4096 12288 s₁ s₂ → Builds model s₂
+pub built : (s : List ℕ) {model s₁ s₂ : List ℕ} {r : Entry} → s₁ ≡ paste s 0 model (length model) → length s ≡ 36864 → length model ≤ 4096
+    → Indexes s₁ 0 64 r s₂ → Within 4096 36864 s₁ s₂ → Builds model s₂
 built s {model} {s₁} {s₂} e l h i w = record {
   exact = λ P m.
       let here : Stands s₁ 0 (encodeProcess P) (length model) = rw (m .encoded) (rw zero-add at (put-stands s 0 model e (omega arith))) in

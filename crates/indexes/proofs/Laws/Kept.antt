@@ -1,37 +1,50 @@
 -- The entries of a process stay where no call reaches them; how long a process is, from its parts ("Bytes"). Assumes nothing.
 use mathlib.Core.Path.{_≡_}
-use mathlib.Core.List.{List, _++_}
+use mathlib.Core.List.{List, [], _∷_, _++_}
 use Prim.Native.Nat.{ℕ, _+_, _-_, _≤_, _<_}
 use native.Mathlib.Omega.{arith}
 use lib.ListN.{length, length-append}
 use Rattle.meaning.specs.Messages.Term.{Term}
 use Rattle.meaning.specs.Bytes.Process.{output, input, Process, nil, new, act, if, let-in, par, repl}
 use Rattle.meaning.specs.Bytes.Encoding.{encodeTerm, encodeProcess}
-use Rattle.layouts.specs.Layout.{parts}
+use Rattle.layouts.specs.Ends.{row}
 use Rattle.layouts.proofs.Laws.Ends.{processes}
+use Rattle.indexes.specs.declared.entry.Entry.{Entry}
+use Rattle.indexes.specs.Entry.{entryOf}
 use Rattle.indexes.specs.Index.{EntryOf, Noted, Indexed}
 
 -- A process takes a byte at least.
 pub bytes : (P : Process) → 1 ≤ length (encodeProcess P)
 bytes P = rw (processes P .shape) (omega arith)
 
+-- The terms of a node, one or two.
+pub one-term : (at : ℕ) (M : Term) → at + length (row encodeTerm (M ∷ [])) ≡ at + length (encodeTerm M)
+one-term at M = omega (arith, length-append (encodeTerm M) [])
+
+pub two-terms : (at : ℕ) (M N : Term) → at + length (row encodeTerm (M ∷ N ∷ [])) ≡ at + length (encodeTerm M) + length (encodeTerm N)
+two-terms at M N = omega (arith, length-append (encodeTerm M) (encodeTerm N ++ []), length-append (encodeTerm N) [])
+
 -- How long a process is, from its parts.
+pub nil-long : length (encodeProcess nil) ≡ 1
+unfolding encodeProcess
+nil-long = omega arith
+
 module _ (C M : Term) (P : Process) where
-  output-long : length (encodeProcess (act (output C M) P)) ≡ 1 + length (encodeTerm C) + length (encodeTerm M) + length (encodeProcess P)
+  pub output-long : length (encodeProcess (act (output C M) P)) ≡ 1 + length (encodeTerm C) + length (encodeTerm M) + length (encodeProcess P)
   unfolding encodeProcess
   output-long =
       omega (arith, length-append (encodeTerm C ++ encodeTerm M) (encodeProcess P), length-append (encodeTerm C) (encodeTerm M))
 
 module _ (C : Term) (P : Process) where
-  input-long : length (encodeProcess (act (input C) P)) ≡ 1 + length (encodeTerm C) + length (encodeProcess P)
+  pub input-long : length (encodeProcess (act (input C) P)) ≡ 1 + length (encodeTerm C) + length (encodeProcess P)
   unfolding encodeProcess
   input-long = omega (arith, length-append (encodeTerm C) (encodeProcess P))
 
-  let-long : length (encodeProcess (let-in C P)) ≡ 1 + length (encodeTerm C) + length (encodeProcess P)
+  pub let-long : length (encodeProcess (let-in C P)) ≡ 1 + length (encodeTerm C) + length (encodeProcess P)
   unfolding encodeProcess
   let-long = omega (arith, length-append (encodeTerm C) (encodeProcess P))
 
-if-long : (M N : Term) (P Q : Process) → length (encodeProcess (if M N P Q))
+pub if-long : (M N : Term) (P Q : Process) → length (encodeProcess (if M N P Q))
     ≡ 1 + length (encodeTerm M) + length (encodeTerm N) + length (encodeProcess P) + length (encodeProcess Q)
 unfolding encodeProcess
 if-long M N P Q =
@@ -43,30 +56,30 @@ if-long M N P Q =
     )
 
 module _ (P Q : Process) where
-  par-long : length (encodeProcess (par P Q)) ≡ 1 + length (encodeProcess P) + length (encodeProcess Q)
+  pub par-long : length (encodeProcess (par P Q)) ≡ 1 + length (encodeProcess P) + length (encodeProcess Q)
   unfolding encodeProcess
   par-long = omega (arith, length-append (encodeProcess P) (encodeProcess Q))
 
 module _ (P : Process) where
-  new-long : length (encodeProcess (new P)) ≡ 1 + length (encodeProcess P)
+  pub new-long : length (encodeProcess (new P)) ≡ 1 + length (encodeProcess P)
   unfolding encodeProcess
   new-long = omega arith
 
-  repl-long : length (encodeProcess (repl P)) ≡ 1 + length (encodeProcess P)
+  pub repl-long : length (encodeProcess (repl P)) ≡ 1 + length (encodeProcess P)
   unfolding encodeProcess
   repl-long = omega arith
 
 -- Entries from one position to another are left as they were.
 pub record Leaves (s t : List ℕ) (from to : ℕ) : Type 0 where
-  pub entry : (q end : ℕ) → from ≤ q → q < to → EntryOf s q end → EntryOf t q end
+  pub entry : (q : ℕ) (e : Entry) → from ≤ q → q < to → EntryOf s q e → EntryOf t q e
 
 pub inside : {s t : List ℕ} {from to from₁ to₁ : ℕ} → Leaves s t from to → from ≤ from₁ → to₁ ≤ to → Leaves s t from₁ to₁
-inside k l h = record { entry = λ q end l₁ h₁. k .entry q end (omega arith) (omega arith) }
+inside k l h = record { entry = λ q e l₁ h₁. k .entry q e (omega arith) (omega arith) }
 
 -- So a process stays in the index.
 module _ {s t : List ℕ} where
   own-kept : (P : Process) {at : ℕ} → Leaves s t at (at + length (encodeProcess P)) → Noted s at P → Noted t at P
-  own-kept P {at} k i = k .entry at (at + length (encodeProcess P)) (omega arith) (omega (arith, bytes P)) i
+  own-kept P {at} k i = k .entry at (entryOf at P) (omega arith) (omega (arith, bytes P)) i
 
   pub indexed-kept : (P : Process) {at : ℕ} → Leaves s t at (at + length (encodeProcess P)) → Indexed s at P → Indexed t at P
   indexed-kept nil k i = own-kept nil k i

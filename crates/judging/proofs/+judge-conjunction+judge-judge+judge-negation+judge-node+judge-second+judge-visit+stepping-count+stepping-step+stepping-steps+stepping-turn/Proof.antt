@@ -1,6 +1,7 @@
 -- The functions of judging meet their contracts. Formula nodes left on the path fall, eight calls to a node; the steps of a formula are
 -- a loop, in which what is left of the budget falls. Assumes nothing.
 use Prim.Native.Nat.{ℕ, _+_, _*_, _<_}
+use native.Mathlib.Omega.{arith}
 use mathlib.Core.List.{List}
 use borrow.Author.Needs.{needs}
 use borrow.Fn.Kinds.{In, PK}
@@ -30,13 +31,14 @@ use Rattle.judging.proofs.judge.equality.Reads as equality-reads
 use Rattle.judging.proofs.judged.both.Reads as both-reads
 use Rattle.judging.proofs.judged.either.Reads as either-reads
 use Rattle.labels.proofs.head.work.Reads as work-reads
+use Rattle.judging.proofs.quiet.quiet.Reads as quiet-reads
 use Rattle.layouts.proofs.ends.formula.Reads as formula-reads
 use Rattle.nodes.proofs.node.wide.Reads as wide-reads
 use Rattle.steps.proofs.next.before.Reads as before-reads
 use Rattle.judging.proofs.+judge-conjunction+judge-judge+judge-negation+judge-node+judge-second+judge-visit+stepping-count+stepping-step+stepping-steps+stepping-turn as cycle
 use Rattle.judging.proofs.Laws.Less.{lessening, falling}
 use Rattle.judging.proofs.Laws.Visit.{judgings, visitings, kinds, sides}
-use Rattle.judging.proofs.Laws.Turn.{turning, countings}
+use Rattle.judging.proofs.Laws.Turn.{turn-none, turn-by, countings}
 use Rattle.judging.proofs.Laws.Loop.{Looping, looping-falls, loopings}
 use Rattle.judging.proofs.Laws.Step.{steppings, shortness}
 
@@ -64,7 +66,7 @@ abbrev μ-step : Measures 4 step-kinds.ps ℕ
 abbrev μ-steps : Measures 6 steps-kinds.ps ℕ
 μ-steps κs a = 8 * a .1 .1 .1 .0 + 10
 
-abbrev μ-turn : Measures 6 turn-kinds.ps ℕ
+abbrev μ-turn : Measures 8 turn-kinds.ps ℕ
 μ-turn κs a = 8 * a .1 .1 .1 .0 + 9
 
 abbrev μ-visit : Measures 4 visit-kinds.ps ℕ
@@ -78,11 +80,47 @@ abbrev below : (n : ℕ) (ps : List (PK n)) → Measures n ps ℕ → In n ps �
 below n ps μ pre t = and n ps (falls n ps _<_ μ t) pre
 
 abbrev steps-Inv-loop : cycle.Lts-stepping-steps.InvT-loop
-steps-Inv-loop s f depth state channel taken m₀ out₀ left from₀ sum₀ body m out from sum =
-    Looping s f body depth state (from₀ .label) channel taken m₀ out₀ left m out from sum
+steps-Inv-loop s f depth state channel taken m₀ out₀ left from₀ sum₀ body quiet held₀ message₀ m out from sum held message =
+    Looping quiet s f body depth state (from₀ .label) channel taken m₀ out₀ left m out held message from sum
 
 abbrev steps-μ-loop : cycle.Lts-stepping-steps.MeasureT-loop
-steps-μ-loop s f depth state channel taken m₀ out₀ left from₀ sum₀ body m out from sum = sum .left
+steps-μ-loop s f depth state channel taken m₀ out₀ left from₀ sum₀ body quiet held₀ message₀ m out from sum held message = sum .left
+
+-- A turn: what it hands on, and what it answers.
+turn-count-requires : (t : ℕ) → cycle.Lts-stepping-turn.Need-count-requires
+    (next-reads.Asked, next-reads.Learnt, below 4 count-kinds.ps μ-count count.Pre t, count.Post)
+    (at 8 turn-kinds.ps μ-turn turn.Pre t)
+    turn.Post
+turn-count-requires t c κs = let given = c .before .before .before .before .before .before .before .before .before .before .before .before .before .before .before .before .before .before .before .before .before .before .before .before .before .before .pre in (omega (arith, given .0), search needs)
+
+turn-returns : (t : ℕ) → cycle.Lts-stepping-turn.Need-returns
+    (next-reads.Asked, next-reads.Learnt, below 4 count-kinds.ps μ-count count.Pre t, count.Post)
+    (at 8 turn-kinds.ps μ-turn turn.Pre t)
+    turn.Post
+turn-returns t c =
+    let counted = c .before .before .before .before .count .ensures in
+    let arrived = c .before .before .before .before .before .before .before .before .before .before .before .before .before .before .before .before .before .before .next .ensures in (
+      search needs,
+      (
+        search needs,
+        (
+          search needs,
+          (
+            search needs,
+            (
+              search (needs, falling),
+              turn-by (arrived .1 .1 .1 .1) (arrived .1 .0) (c .before .before .before .before .before .before .before .before .found .given .1) (arrived .0) (counted .1 .1 .1),
+            ),
+          ),
+        ),
+      ),
+    )
+
+turn-returns-2 : (t : ℕ) → cycle.Lts-stepping-turn.Need-returns-2
+    (next-reads.Asked, next-reads.Learnt, below 4 count-kinds.ps μ-count count.Pre t, count.Post)
+    (at 8 turn-kinds.ps μ-turn turn.Pre t)
+    turn.Post
+turn-returns-2 t c = (search needs, (search needs, (search needs, (search needs, (search (needs, falling), search (needs, turn-none))))))
 
 pub +judge·conjunction+judge·judge+judge·negation+judge·node+judge·second+judge·visit+stepping·count+stepping·step+stepping·steps+stepping·turn-spec : {M : Type 1} → cycle.statement M
 +judge·conjunction+judge·judge+judge·negation+judge·node+judge·second+judge·visit+stepping·count+stepping·step+stepping·steps+stepping·turn-spec =
@@ -263,7 +301,9 @@ pub +judge·conjunction+judge·judge+judge·negation+judge·node+judge·second+j
     (λ t. cycle.Lts-stepping-steps.spec (
       before-reads.Asked,
       before-reads.Learnt,
-      below 6 turn-kinds.ps μ-turn turn.Pre t,
+      quiet-reads.Asked,
+      quiet-reads.Learnt,
+      below 8 turn-kinds.ps μ-turn turn.Pre t,
       turn.Post,
     )
     (at 6 steps-kinds.ps μ-steps steps.Pre t)
@@ -271,6 +311,9 @@ pub +judge·conjunction+judge·judge+judge·negation+judge·node+judge·second+j
     steps-Inv-loop
     steps-μ-loop
     (λ c κs. search needs)
+    (λ c κs. search needs)
+    (λ c. search (needs, loopings))
+    (λ c. search (needs, loopings))
     (λ c. search (needs, loopings))
     (λ c κs. search needs)
     (λ c. search needs)
@@ -282,15 +325,19 @@ pub +judge·conjunction+judge·judge+judge·negation+judge·node+judge·second+j
     (λ c. (search needs, (search needs, (search (needs, loopings), search (needs, loopings))))))
     λ t. cycle.Lts-stepping-turn.spec
     (next-reads.Asked, next-reads.Learnt, below 4 count-kinds.ps μ-count count.Pre t, count.Post)
-    (at 6 turn-kinds.ps μ-turn turn.Pre t)
+    (at 8 turn-kinds.ps μ-turn turn.Pre t)
     turn.Post
     (λ c κs. search needs)
     (λ c. search needs)
-    (λ c κs. search needs)
+    (turn-count-requires t)
     (λ c. search needs)
     (λ c. search needs)
     (λ c. search needs)
-    (λ c. (search needs, (search needs, (search (needs, falling), search (needs, turning)))))
     (λ c. search needs)
     (λ c. search needs)
-    (λ c. (search needs, (search needs, (search (needs, falling), search (needs, turning)))))
+    (turn-returns t)
+    (λ c. search needs)
+    (λ c. search needs)
+    (λ c. search needs)
+    (λ c. search needs)
+    (turn-returns-2 t)

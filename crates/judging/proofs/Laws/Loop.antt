@@ -1,6 +1,6 @@
 -- All turns of a step formula ("Judging and its count"). Assumes nothing.
 use mathlib.Core.Path.{_≡_, refl, sym, ap, subst, _∙_}
-use mathlib.Core.Bool.{false}
+use mathlib.Core.Bool.{Bool, false}
 use mathlib.Core.List.{List}
 use Prim.Native.Nat.{ℕ, _+_, _-_, _≤_, _<_}
 use native.Mathlib.Omega.{arith}
@@ -11,12 +11,14 @@ use Rattle.nodes.specs.Buffer.{Within}
 use Rattle.nodes.proofs.Laws.Buffer.{one-after, unchanged}
 use Rattle.states.specs.declared.state.State as code
 use Rattle.moves.specs.Moves.{Move}
-use Rattle.moves.specs.Behind.{before, Behind, all}
+use Rattle.moves.specs.Behind.{before, all}
 use Rattle.moves.specs.declared.step.Step as step
 use Rattle.moves.specs.declared.step.Label as step-label
 use Rattle.successors.proofs.Laws.Leads.{held-kept}
+use Rattle.steps.specs.Kept.{Resuming}
 use Rattle.labels.specs.declared.head.Head as head
 use Rattle.judging.specs.Judged.{Less}
+use Rattle.judging.specs.Quiet.{Quiet}
 use Rattle.judging.specs.Visit.{Comes}
 use Rattle.judging.specs.Steps.{Asked, movesAt, judgementsAt, toCome, Onward, TurnTo, Turns, Falls, AllSteps}
 use Rattle.judging.specs.declared.judged.Judged.{Judged}
@@ -49,62 +51,74 @@ abbrev pub fresh : ℕ → Sum
 fresh left = record { truth = false; limited = false; left = left }
 
 -- Behind a step, with what has come so far: what is still to come makes up the whole.
-pub record Looping (s f : List ℕ) (body depth : ℕ) (st : code.State) (l : step-label.Label) (channel taken m₀ out₀ : List ℕ) (left : ℕ)
-    (m out : List ℕ) (from : step.Step) (sum : Sum) : Type 0 where
+pub record Looping (quiet : Bool) (s f : List ℕ) (body depth : ℕ) (st : code.State) (l : step-label.Label) (channel taken m₀ out₀ : List ℕ) (left : ℕ)
+    (m out held message : List ℕ) (from : step.Step) (sum : Sum) : Type 0 where
+  pub plain : Quiet f body depth quiet
   pub long : length m ≡ length m₀
   pub longer : length out ≡ length out₀
+  pub holds : length held ≡ 510
+  pub carries : length message ≡ 510
   pub less : sum .left ≤ left
   pub exact : (q : Asked s f body depth st l channel taken m₀ out₀)
-      → Onward l (st .start) (movesAt q) (judgementsAt q) (toCome (fresh left) (judgementsAt q (movesAt q))) from sum
+      → Onward l (st .start) (movesAt q) (judgementsAt q) (toCome (fresh left) (judgementsAt q (movesAt q))) held message from sum
       × Within (st .end) (length out₀) out₀ out
 
-module _ {s f channel taken m₀ out₀ : List ℕ} {body depth left : ℕ} {st : code.State} where
-  pub looping-starts : {l : step-label.Label} {from : step.Step} → from ≡ before l (st .start)
-      → Looping s f body depth st (from .label) channel taken m₀ out₀ left m₀ out₀ from (fresh left)
-  looping-starts e = record {
+module _ {quiet : Bool} {s f channel taken m₀ out₀ : List ℕ} {body depth left : ℕ} {st : code.State} where
+  pub looping-starts : {l : step-label.Label} {from : step.Step} {held message : List ℕ} → from ≡ before l (st .start) → Quiet f body depth quiet
+      → length held ≡ 510 → length message ≡ 510 → Looping quiet s f body depth st (from .label) channel taken m₀ out₀ left m₀ out₀ held message from (fresh left)
+  looping-starts {held = held} {message = message} e z lh lm = record {
+    plain = z;
     long = refl;
     longer = refl;
+    holds = lh;
+    carries = lm;
     less = omega arith;
     exact = λ q. (
       record {
         label = refl;
         others = movesAt q;
-        behind = subst (λ (v : step.Step). Behind (v .label) (st .start) (movesAt q) v (movesAt q)) (sym e) all;
+        resuming =
+            subst (λ (v : step.Step). Resuming (v .label) (st .start) (movesAt q) held message v (movesAt q)) (sym e)
+            (record { behind = all; keeping = tt });
         same = refl;
       },
       unchanged,
     );
   }
 
-  module _ {l : step-label.Label} {m out after : List ℕ} {from : step.Step} {sum : Sum} {r : Turn}
-      (looping : Looping s f body depth st l channel taken m₀ out₀ left m out from sum)
-      (turns : Turns s f body depth st from channel taken m out sum r after) where
+  module _ {l : step-label.Label} {m out held message after on said : List ℕ} {from : step.Step} {sum : Sum} {r : Turn}
+      (looping : Looping quiet s f body depth st l channel taken m₀ out₀ left m out held message from sum)
+      (turns : Turns quiet s f body depth st from channel taken m out held message sum r after on said) where
     -- The turn, for the label of the formula.
     turned : (l : step-label.Label) → from .label ≡ l → (q : Asked s f body depth st l channel taken m out) (others : List Move)
-        → Behind l (st .start) (movesAt q) from others
-        → TurnTo l (st .start) (movesAt q) (judgementsAt q) (toCome sum (judgementsAt q others)) r × Within (st .end) (length out) out after
+        → Resuming l (st .start) (movesAt q) held message from others
+        → TurnTo l (st .start) (movesAt q) (judgementsAt q) (toCome sum (judgementsAt q others)) on said r × Within (st .end) (length out) out after
     turned l e =
         subst (λ (l : step-label.Label). (q : Asked s f body depth st l channel taken m out) (others : List Move)
-        → Behind l (st .start) (movesAt q) from others
-        → TurnTo l (st .start) (movesAt q) (judgementsAt q) (toCome sum (judgementsAt q others)) r × Within (st .end) (length out) out after)
-        e (λ q others. turns .exact q {others = others})
+        → Resuming l (st .start) (movesAt q) held message from others
+        → TurnTo l (st .start) (movesAt q) (judgementsAt q) (toCome sum (judgementsAt q others)) on said r × Within (st .end) (length out) out after)
+        e (λ q others. turns .exact q (λ z. looping .plain .none z (q .formula) (q .stands)) {others = others} (omega (arith, looping .holds)) (omega (arith, looping .carries)))
 
     after-turn : (q : Asked s f body depth st l channel taken m₀ out₀)
-        → TurnTo l (st .start) (movesAt q) (judgementsAt q) (toCome (fresh left) (judgementsAt q (movesAt q))) r
+        → TurnTo l (st .start) (movesAt q) (judgementsAt q) (toCome (fresh left) (judgementsAt q (movesAt q))) on said r
         × Within (st .end) (length out₀) out₀ after
     unfolding asked-kept here-kept held-kept
     after-turn q =
-        let (on, kept) = looping .exact q in
-        let (to, later) = turned l (on .label) (asked-kept (looping .long) kept q) (on .others) (on .behind) in (
-          subst (λ (x : Judged). TurnTo l (st .start) (movesAt q) (judgementsAt q) x r) (on .same) to,
+        let (ahead, kept) = looping .exact q in
+        let (to, later) = turned l (ahead .label) (asked-kept (looping .long) kept q) (ahead .others) (ahead .resuming) in (
+          subst (λ (x : Judged). TurnTo l (st .start) (movesAt q) (judgementsAt q) x on said r) (ahead .same) to,
           one-after kept later (omega arith) (omega arith) (omega arith) (omega (arith, looping .longer)),
         )
 
     pub looping-on : {m₁ : List ℕ} {v : step.Step} {more : Sum} → r ≡ On v more → length m₁ ≡ length m → length after ≡ length out
-        → Falls (sum .left) r → Looping s f body depth st l channel taken m₀ out₀ left m₁ after v more
-    looping-on {v = v} {more = more} e lm lo falls = record {
+        → length on ≡ length held → length said ≡ length message → Falls (sum .left) r
+        → Looping quiet s f body depth st l channel taken m₀ out₀ left m₁ after on said v more
+    looping-on {v = v} {more = more} e lm lo lh ls falls = record {
+      plain = looping .plain;
       long = lm ∙ looping .long;
       longer = lo ∙ looping .longer;
+      holds = lh ∙ looping .holds;
+      carries = ls ∙ looping .carries;
       less = omega (arith, falls .goes v more e, looping .less);
       exact = λ q. let (to, kept) = after-turn q in (to .goes v more e, kept);
     }
@@ -115,13 +129,13 @@ module _ {s f channel taken m₀ out₀ : List ℕ} {body depth left : ℕ} {st 
     }
 
 -- The label is that of the head.
-pub looping-ends : {s f channel taken m₀ out₀ m out after : List ℕ} {head : head.Head} {depth left : ℕ} {st : code.State} {first from : step.Step}
+pub looping-ends : {quiet : Bool} {s f channel taken m₀ out₀ m out held message after on said : List ℕ} {head : head.Head} {depth left : ℕ} {st : code.State} {first from : step.Step}
     {sum : Sum} {r : Turn} {j : Judged} → first ≡ before (head .label) (st .start)
-    → Looping s f (head .body) depth st (first .label) channel taken m₀ out₀ left m out from sum
-    → Turns s f (head .body) depth st from channel taken m out sum r after → r ≡ End j
+    → Looping quiet s f (head .body) depth st (first .label) channel taken m₀ out₀ left m out held message from sum
+    → Turns quiet s f (head .body) depth st from channel taken m out held message sum r after on said → r ≡ End j
     → AllSteps s f head depth st channel taken m₀ out₀ left j after
 unfolding toCome
-looping-ends {s} {f} {channel} {taken} {m₀} {out₀} {after = after} {head = head} {depth} {left} {st} {first = first} {j = j} b looping turns e = record {
+looping-ends {s = s} {f} {channel} {taken} {m₀} {out₀} {after = after} {head = head} {depth} {left} {st} {first = first} {j = j} b looping turns e = record {
   exact = subst (λ (l : step-label.Label). (q : Asked s f (head .body) depth st l channel taken m₀ out₀)
       → Comes st out₀ left (someOf (judgementsAt q (movesAt q))) j after) (ap (λ v. v .label) b)
       (λ q. let (to, kept) = after-turn looping turns q in record { answer = to .ends j e; kept = kept });

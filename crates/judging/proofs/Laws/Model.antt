@@ -21,7 +21,7 @@ use Rattle.judging.proofs.Laws.Reached.{reached}
 
 -- The start state stands in front, and 16 step formulas may follow.
 pub judges-indexed : {s f m m₁ out out₁ after : List ℕ} {low low₁ high high₁ budget : ℕ} {formed : Formed} {r : Judged}
-    → Starts s 0 formed out₁ → Within low high m m₁ → Within low₁ high₁ out out₁ → length s ≤ 12288 → 10750 ≤ length m → 65536 ≤ length out
+    → Starts s 0 formed out₁ → Within low high m m₁ → Within low₁ high₁ out out₁ → length s ≤ 36864 → 10750 ≤ length m → 65536 ≤ length out
     → Judges s f 0 48 formed m₁ out₁ budget r after → JudgesIndexed s f budget r
 unfolding judgeModel start
 judges-indexed {s = s} {m₁ = m₁} {out₁ = out₁} starts wm wo short wide long judges = record {

@@ -1,13 +1,14 @@
 -- One turn of a step formula: the next step, and its body judged where that leads ("Judging and its count"). Assumes nothing.
 use mathlib.Core.Path.{_≡_, refl, sym, ap, subst, _∙_}
-use mathlib.Core.Bool.{Bool, _||_}
+use mathlib.Core.Bool.{Bool, true, false, _||_}
 use mathlib.Core.List.{List, [], _∷_, _++_}
 use Prim.Native.Nat.{ℕ, _+_, _-_, _≤_}
 use native.Mathlib.Omega.{arith}
 use lib.ListN.{length, length-append}
 use Rattle.meaning.specs.Messages.Term.{Message, leaf, public, nodes}
 use Rattle.meaning.specs.Messages.Normal.{normal}
-use Rattle.meaning.specs.Bytes.Formula.{Label}
+use Rattle.meaning.specs.Bytes.Formula.{Label, Formula}
+use Rattle.meaning.specs.Bytes.Nesting.{stepDepth}
 use Rattle.meaning.specs.Bytes.Scope.{bindsLabel}
 use Rattle.meaning.specs.Places.{none}
 use Rattle.meaning.specs.Steps.State.{Bound, State, worked}
@@ -15,28 +16,35 @@ use Rattle.meaning.specs.Steps.Invariant.{Stored, BoundStored}
 use Rattle.meaning.specs.Judging.{judge}
 use Rattle.meaning.specs.Judging.Visits.{Arrival}
 use Rattle.meaning.proofs.Messages.{normalForms}
+use Rattle.meaning.proofs.Test.{neither}
 use Rattle.meaning.proofs.Steps.Invariant.Settling.{worked-below}
 use Rattle.nodes.specs.Buffer.{Within}
 use Rattle.nodes.proofs.Theorems.{runLength}
 use Rattle.nodes.proofs.Laws.Buffer.{one-after}
 use Rattle.terms.proofs.Theorems.{boundLength}
 use Rattle.states.specs.declared.state.State as code
-use Rattle.forms.specs.Form.{Forms}
+use Rattle.forms.specs.Form.{StateAt, overArrival}
 use Rattle.forms.specs.Visit.{Labelled}
 use Rattle.forms.specs.declared.form.Formed.{Formed}
 use Rattle.positions.proofs.Laws.Everywhere.{every-first}
 use Rattle.moves.specs.Moves.{Move}
-use Rattle.moves.specs.Outcome.{outcome, arrivalOf}
+use Rattle.moves.specs.Outcome.{Outcome, outcome, arrivalOf}
+use Rattle.moves.specs.Limits.{Goes}
+use Rattle.moves.specs.Held.{Held}
 use Rattle.moves.specs.Step.{stepOf}
 use Rattle.moves.specs.Behind.{Behind, later}
 use Rattle.moves.specs.Moving.{Leading}
 use Rattle.moves.specs.declared.step.Step as step
 use Rattle.moves.specs.declared.step.Label as step-label
 use Rattle.moves.specs.declared.step.Label.the-variants.{Input}
-use Rattle.moves.proofs.Laws.Start.{heldOn}
+use Rattle.moves.proofs.Laws.Limits.{judgedOn}
+use Rattle.moves.proofs.Laws.Start.{held, heldOn}
+use Rattle.successors.specs.Bare.{StandsFor, itself, bare}
+use Rattle.successors.specs.Lead.{FormsFor}
 use Rattle.successors.proofs.Laws.Lead.{every-move}
 use Rattle.labels.specs.Place.{FormulaAt}
 use Rattle.labels.specs.Head.{stepLabel, channelOf, takenOf}
+use Rattle.steps.specs.Kept.{Resuming}
 use Rattle.arrivals.specs.Arrive.{Taken, ArrivedAt, Arrives}
 use Rattle.arrivals.specs.declared.arrive.Arrived.{Arrived}
 use Rattle.arrivals.specs.declared.arrive.Arrived.the-variants.{By, None}
@@ -51,6 +59,7 @@ use Rattle.judging.specs.declared.judged.Sum.{Sum}
 use Rattle.judging.specs.declared.judged.Turn.{Turn}
 use Rattle.judging.specs.declared.judged.Turn.the-variants.{On, End}
 use Rattle.judging.proofs.Laws.Budget.{none-to-come, spent-to-come, more-to-come}
+use Rattle.judging.proofs.Laws.Quiet.{quiet-judge}
 use Rattle.judging.proofs.Laws.Reached.{reached, kept-below, room-kept}
 
 -- A label adds an alias where its step does.
@@ -112,28 +121,50 @@ module _ {s f : List ℕ} {body depth : ℕ} {st : code.State} {l : step-label.L
         few = omega (arith, q .here .few);
       }
 
+-- A state that will do for the one that a move leads to.
+module _ {s out out₁ : List ℕ} {st : code.State} {S : State} (h : Held s out st S) {o : Outcome} (goes : Goes S o)
+    (holds : overArrival (arrivalOf S o) ≡ false → (st′ : code.State) → StateAt s out₁ st′ (arrivalOf S o .state) → Held s out₁ st′ (arrivalOf S o .state)) where
+  record Serves (F : Formula) (B : Arrival) : Type 0 where
+    aliases : B .state .aliases ≡ S .aliases ++ o .alias
+    holding : overArrival B ≡ false → (st′ : code.State) → StateAt s out₁ st′ (B .state) → Held s out₁ st′ (B .state)
+    judged : judge F B ≡ judge F (arrivalOf S o)
+
+  serves : (F : Formula) (quiet : Bool) (B : Arrival) → (quiet ≡ true → stepDepth F ≡ 0) → StandsFor quiet (arrivalOf S o) B → Serves F B
+  serves F quiet B z itself = record { aliases = refl; holding = holds; judged = refl }
+  serves F quiet B z (bare free) = record {
+    aliases = refl;
+    holding = λ e st′ a. held a (neither (o .large) _ e .1) none none (goes .aliases (h .stored)) (goes .small (h .small));
+    judged = sym (quiet-judge F (arrivalOf S o) (z refl) free);
+  }
+
 -- The body judged at the state that a move leads to.
 module _ {s f channel taken m m₁ out out₁ after : List ℕ} {body depth : ℕ} {st : code.State} {l : step-label.Label} {left high : ℕ} {g : Formed} {j : Judged}
-    (wm : Within 0 high m m₁) (wo : Within (st .end) (length out) out out₁)
-    (judges : Judges s f body depth g m₁ out₁ left j after) (q : Asked s f body depth st l channel taken m out) where
-  visited : (earlier others : List Move) (w : Move) → movesAt q ≡ earlier ++ (w ∷ others) → Forms s (st .end) (led q w) g out₁
+    {quiet : Bool} (wm : Within 0 high m m₁) (wo : Within (st .end) (length out) out out₁)
+    (judges : Judges s f body depth g m₁ out₁ left j after) (q : Asked s f body depth st l channel taken m out)
+    (plain : quiet ≡ true → stepDepth (q .formula) ≡ 0) where
+  visited : (earlier others : List Move) (w : Move) → movesAt q ≡ earlier ++ (w ∷ others) → FormsFor quiet s (st .end) (led q w) g out₁
       → (j ≡ judgedOf left (judge (q .formula) (led q w))) × Within (st .end) (length out) out after
-  visited earlier others w e forms =
+  visited earlier others w e (B, stands-for, forms) =
       let h = q .here .held in
       let o = outcome (h .at .placed) (here q .next) (takes q) w in
       let channelled = channelOf (here q .aliases) (q .label) in
       let sends = sending h l channelled (takes q) earlier others w e in
-      let held = every-move (here q .next) (h .at .placed) (heldOn s out st (here q) (takes q) h (taking q .stored) (small q)) l channelled
+      let holds = every-move (here q .next) (h .at .placed) (heldOn s out st (here q) (takes q) h (taking q .stored) (small q)) l channelled
       earlier others w e in
+      let goes = every-move (here q .next) (h .at .placed) (judgedOn (h .at .placed) (here q) (takes q) (h .judged) (taking q .stored) (small q)) l
+      channelled earlier others w e in
+      let served = serves h goes (λ free st′ at. holds free out₁ st′ at) (q .formula) quiet B plain stands-for in
       let alias : length (o .alias) ≡ bindsLabel (q .label) = sends .alias (h .at .placed) (here q .next) ∙ rw (q .same) (added-by (q .label)) in
-      let many : bindsLabel (q .label) + length (here q .aliases) ≡ length (here q .aliases ++ o .alias) =
-      omega (arith, length-append (here q .aliases) (o .alias)) in
-      let (there, above) = reached forms (λ free st′ at. held free out₁ st′ at) (q .steps) (q .here .early) (omega (arith, q .here .few, bound (q .label))) in
-      let stands : FormulaAt f body depth (q .steps) (length (led q w .state .aliases)) (q .formula) (q .next) =
+      let many : bindsLabel (q .label) + length (here q .aliases) ≡ length (B .state .aliases) =
+      omega (arith, length-append (here q .aliases) (o .alias), ap length (served .aliases)) in
+      let (there, above) = reached forms (served .holding) (q .steps) (q .here .early) (omega (arith, q .here .few, bound (q .label))) in
+      let stands : FormulaAt f body depth (q .steps) (length (B .state .aliases)) (q .formula) (q .next) =
       subst (λ (n : ℕ). FormulaAt f body depth (q .steps) n (q .formula) (q .next)) many (q .stands) in
-      let (answer, kept) = judges .exact (q .formula) (led q w) stands there (room-kept (wm .long) (wo .long) (q .room)) in
-      let later = kept-below g above (omega (arith, wo .long, h .at .records .size, q .here .early, q .room .long)) kept in
-      (answer, one-after wo later (omega arith) (omega arith) (omega arith) (omega (arith, wo .long)))
+      let (answer, kept) = judges .exact (q .formula) B stands there (room-kept (wm .long) (wo .long) (q .room)) in
+      let later = kept-below g above (omega (arith, wo .long, h .at .records .size, q .here .early, q .room .long)) kept in (
+        answer ∙ ap (judgedOf left) (served .judged),
+        one-after wo later (omega arith) (omega arith) (omega arith) (omega (arith, wo .long)),
+      )
     where
       bound : (a : Label) → bindsLabel a ≤ 1
       bound (Label.output C) = omega arith
@@ -141,27 +172,27 @@ module _ {s f channel taken m m₁ out out₁ after : List ℕ} {body depth : �
       bound Label.silent = omega arith
 
 -- What a turn comes to.
-module _ {s channel taken m out out₁ : List ℕ} {st : code.State} {from : step.Step} {r : Arrived}
-    (arrives : Arrives s channel taken st from m out r out₁) (wo : Within (st .end) (length out) out out₁) where
+module _ {quiet : Bool} {s channel taken m out out₁ held message on said : List ℕ} {st : code.State} {from : step.Step} {r : Arrived}
+    (arrives : Arrives quiet s channel taken st from m out held message r out₁ on said) (wo : Within (st .end) (length out) out out₁) where
   found : {f : List ℕ} {body depth : ℕ} (q : Asked s f body depth st (from .label) channel taken m out) {others : List Move}
-      → Behind (from .label) (st .start) (movesAt q) from others
-      → ArrivedAt s st (here q) (q .here .held .at .placed) (takes q) r out₁ others
-  found q b =
-      arrives .exact (here q) (channelOf (here q .aliases) (q .label)) (takes q) (q .here .held) (q .channelled) (taking q) (leading q) b
+      → 510 ≤ length held → 510 ≤ length message → Resuming (from .label) (st .start) (movesAt q) held message from others
+      → ArrivedAt quiet s st (here q) (q .here .held .at .placed) (takes q) r out₁ on said others
+  found q wide long b =
+      arrives .exact (here q) (channelOf (here q .aliases) (q .label)) (takes q) (q .here .held) (q .channelled) (taking q) (leading q) wide long b
 
   pub turn-none : (f : List ℕ) (body depth : ℕ) (sum : Sum) → r ≡ None
-      → Turns s f body depth st from channel taken m out sum (End (Done (sum .truth) (sum .limited) (sum .left))) out₁
-  turn-none f body depth sum e = record { exact = λ q {others} b. (of q others (found q b), wo) }
+      → Turns quiet s f body depth st from channel taken m out held message sum (End (Done (sum .truth) (sum .limited) (sum .left))) out₁ on said
+  turn-none f body depth sum e = record { exact = λ q z {others} wide long b. (of q others (found q wide long b), wo) }
     where
       of : (q : Asked s f body depth st (from .label) channel taken m out) (others : List Move)
-          → ArrivedAt s st (here q) (q .here .held .at .placed) (takes q) r out₁ others
-          → TurnTo (from .label) (st .start) (movesAt q) (judgementsAt q) (toCome sum (judgementsAt q others))
+          → ArrivedAt quiet s st (here q) (q .here .held .at .placed) (takes q) r out₁ on said others
+          → TurnTo (from .label) (st .start) (movesAt q) (judgementsAt q) (toCome sum (judgementsAt q others)) on said
           (End (Done (sum .truth) (sum .limited) (sum .left)))
       of q [] a = record {
         ends = λ j d. let same : j ≡ Done (sum .truth) (sum .limited) (sum .left) = cc in same ∙ none-to-come sum;
         goes = λ v more d. absurd (let z : _≡_ {A = ℕ} 0 1 = cc in omega arith);
       }
-      of q (w ∷ others) (g, a, forms) = absurd (let z : _≡_ {A = ℕ} 0 1 = cc in omega arith)
+      of q (w ∷ others) (g, a, forms, kept) = absurd (let z : _≡_ {A = ℕ} 0 1 = cc in omega arith)
 
   module _ {f m₁ after : List ℕ} {body depth left high : ℕ} {v : step.Step} {g : Formed} {j : Judged} (e : r ≡ By v g)
       (wm : Within 0 high m m₁) (judges : Judges s f body depth g m₁ out₁ left j after) where
@@ -172,23 +203,23 @@ module _ {s channel taken m out out₁ : List ℕ} {st : code.State} {from : ste
       same : others ≡ move ∷ behind
       is : v ≡ stepOf (st .start) move
       label : v .label ≡ from .label
-      after-it : Behind (from .label) (st .start) (movesAt q) v behind
+      after-it : Resuming (from .label) (st .start) (movesAt q) on said v behind
       answer : j ≡ judgedOf left (judge (q .formula) (led q move))
       kept : Within (st .end) (length out) out after
 
-    made : (q : Asked s f body depth st (from .label) channel taken m out) {others : List Move}
-        → Behind (from .label) (st .start) (movesAt q) from others → Made q others
-    made q {others} b = of others b (found q b)
+    made : (q : Asked s f body depth st (from .label) channel taken m out) → (quiet ≡ true → stepDepth (q .formula) ≡ 0) → {others : List Move}
+        → 510 ≤ length held → 510 ≤ length message → Resuming (from .label) (st .start) (movesAt q) held message from others → Made q others
+    made q z {others} wide long b = of others (b .behind) (found q wide long b)
       where
         of : (others : List Move) → Behind (from .label) (st .start) (movesAt q) from others
-            → ArrivedAt s st (here q) (q .here .held .at .placed) (takes q) r out₁ others → Made q others
+            → ArrivedAt quiet s st (here q) (q .here .held .at .placed) (takes q) r out₁ on said others → Made q others
         of [] b a = absurd (let z : _≡_ {A = ℕ} 0 1 = cc in omega arith)
-        of (w ∷ others) b (g′, a, forms) =
+        of (w ∷ others) b (g′, a, forms, sent) =
             let is : v ≡ stepOf (st .start) w = cc in
             let state : g′ ≡ g = cc in
             let (earlier, there) = listed b in
             let sends = sending (q .here .held) (from .label) (channelOf (here q .aliases) (q .label)) (takes q) earlier others w there in
-            let (answer, kept) = visited wm wo judges q earlier others w there (rw state at forms) in
+            let (answer, kept) = visited wm wo judges q z earlier others w there (rw state at forms) in
             record {
               move = w;
               behind = others;
@@ -196,16 +227,17 @@ module _ {s channel taken m out out₁ : List ℕ} {st : code.State} {from : ste
               is = is;
               label = ap (λ u. u .label) is ∙ sends .label;
               after-it =
-                  subst (λ (u : step.Step). Behind (from .label) (st .start) (movesAt q) u others) (sym is) (later earlier w there);
+                  subst (λ (u : step.Step). Resuming (from .label) (st .start) (movesAt q) on said u others) (sym is)
+                  (record { behind = later earlier w there; keeping = sent });
               answer = answer;
               kept = kept;
             }
 
   module _ {f m₁ after : List ℕ} {body depth high : ℕ} {sum : Sum} {v : step.Step} {g : Formed} (e : r ≡ By v g) (wm : Within 0 high m m₁) where
-    spent : Judges s f body depth g m₁ out₁ (sum .left) Spent after → Turns s f body depth st from channel taken m out sum (End Spent) after
+    spent : Judges s f body depth g m₁ out₁ (sum .left) Spent after → Turns quiet s f body depth st from channel taken m out held message sum (End Spent) after on said
     spent judges = record {
-      exact = λ q b.
-          let w = made e wm judges q b in
+      exact = λ q z wide long b.
+          let w = made e wm judges q z wide long b in
           let total = spent-to-come sum _ (judgementsAt q (w .behind)) (w .answer) refl in (
             record {
               ends = λ k x. let same : k ≡ Spent = cc in same ∙ total ∙ ap (λ ws. toCome sum (judgementsAt q ws)) (sym (w .same));
@@ -216,10 +248,10 @@ module _ {s channel taken m out out₁ : List ℕ} {st : code.State} {from : ste
     }
 
     goes-on : {n : ℕ} {t l : Bool} → Judges s f body depth g m₁ out₁ (sum .left) (Done t l n) after
-        → Turns s f body depth st from channel taken m out sum (turnOf v sum (Done t l n)) after
+        → Turns quiet s f body depth st from channel taken m out held message sum (turnOf v sum (Done t l n)) after on said
     goes-on {n} {t} {l} judges = record {
-      exact = λ q c.
-          let w = made e wm judges q c in
+      exact = λ q z wide long c.
+          let w = made e wm judges q z wide long c in
           let more = more-to-come sum _ (judgementsAt q (w .behind)) (w .answer) refl refl refl in
           let now : Sum = record { truth = sum .truth || t; limited = sum .limited || l; left = n } in (
             record {
@@ -230,7 +262,8 @@ module _ {s channel taken m out out₁ : List ℕ} {st : code.State} {from : ste
                   record {
                     label = rw found-it at (w .label);
                     others = w .behind;
-                    behind = subst (λ (u : step.Step). Behind (from .label) (st .start) (movesAt q) u (w .behind)) found-it (w .after-it);
+                    resuming =
+                        subst (λ (u : step.Step). Resuming (from .label) (st .start) (movesAt q) on said u (w .behind)) found-it (w .after-it);
                     same =
                         ap (λ y. toCome y (judgementsAt q (w .behind))) (sym sums) ∙ more
                         ∙ ap (λ ws. toCome sum (judgementsAt q ws)) (sym (w .same));
@@ -240,11 +273,11 @@ module _ {s channel taken m out out₁ : List ℕ} {st : code.State} {from : ste
           );
     }
 
-    pub turn-by : {t : Turn} → Counts s f body depth v g m₁ out₁ sum t after → Turns s f body depth st from channel taken m out sum t after
+    pub turn-by : {t : Turn} → Counts s f body depth v g m₁ out₁ sum t after → Turns quiet s f body depth st from channel taken m out held message sum t after on said
     turn-by {t} c = rw (c .answer) (of (c .judged) (c .judges))
       where
         of : (j : Judged) → Judges s f body depth g m₁ out₁ (sum .left) j after
-            → Turns s f body depth st from channel taken m out sum (turnOf v sum j) after
+            → Turns quiet s f body depth st from channel taken m out held message sum (turnOf v sum j) after on said
         of (Done t l n) judges = goes-on judges
         of Spent judges = spent judges
 
@@ -259,5 +292,3 @@ module _ {s f m out after : List ℕ} {body depth : ℕ} {g : Formed} {sum : Sum
   counts-spent e = record { judged = j; judges = judges; answer = rw e }
 
 pub ruleset countings = (counts-done, counts-spent)
-
-pub ruleset turning = (turn-none, turn-by)

@@ -75,7 +75,7 @@ module _ {s f m out : List ℕ} {at depth left : ℕ} {st : code.State} where
   pub no-formula : length f ≤ at → Visits s f at depth st m out left Spent out
   no-formula e = no-visit (λ F A steps next stands here room. omega (arith, formula-kind F stands .1))
 
-  pub long-model : 12288 < length s → Visits s f at depth st m out left Spent out
+  pub long-model : 36864 < length s → Visits s f at depth st m out left Spent out
   long-model e = no-visit (λ F A steps next stands here room. omega (arith, room .short))
 
   pub no-bytes : length out < 65536 → Visits s f at depth st m out left Spent out

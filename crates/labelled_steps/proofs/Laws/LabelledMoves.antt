@@ -59,7 +59,7 @@ pub record Asked (s channel : List ℕ) (st : code.State) (S : State.State) (ps 
     pub state : StateAt s out st S
     pub threads : Threads s out (st .start) (S .next) ps (st .end)
     pub channelled : Labelled channel x
-    pub short : length s ≤ 12288
+    pub short : length s ≤ 36864
     pub work : 10750 ≤ length m
     pub room : st .end + 3964 ≤ length out
     pub few : S .next ≤ 128

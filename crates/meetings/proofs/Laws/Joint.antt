@@ -1,6 +1,6 @@
 -- The silent steps of the threads of a state in their copies, one after the other ("Steps"). Assumes nothing.
 use mathlib.Core.Path.{_≡_, refl, sym, _∙_, ap}
-use mathlib.Core.Bool.{true, false, true≢false}
+use mathlib.Core.Bool.{Bool, true, false, true≢false}
 use mathlib.Core.List.{List, [], _∷_, _++_, append-assoc, append-nil, flatMap}
 use Prim.Native.Nat.{ℕ, _+_, _-_, _*_, _≤_, _<_}
 use native.Mathlib.Omega.{arith}
@@ -9,6 +9,7 @@ use borrow.Author.Tests.{ne-eqb}
 use lib.ListN.{length}
 use Rattle.nodes.specs.Encoding.{numberAt}
 use Rattle.nodes.specs.Buffer.{Within}
+use Rattle.nodes.proofs.Laws.Buffer.{unchanged}
 use Rattle.states.specs.Record.{Placed, encodeRecord, encodeRecords}
 use Rattle.states.specs.declared.progress.Progress.{Progress}
 use Rattle.positions.specs.Sought.{Opened}
@@ -19,7 +20,7 @@ use Rattle.moves.specs.CopyOffers.{ThreadAt, pairsFrom, senders, moved}
 use Rattle.pairs.specs.Meet.{CopyOf, Meets}
 use Rattle.moves.specs.Step.{Shown}
 use Rattle.moves.specs.CopyMoves.{groupMoves, copyMoves, laterSpots, copyMovesFrom, Roomy}
-use Rattle.meetings.specs.Joint.{Joins, ShowsCopy, Finds, Passes}
+use Rattle.meetings.specs.Joint.{Joins, Barren, ShowsCopy, Finds, Passes}
 use Rattle.moves.specs.declared.step.Next.{Next}
 use Rattle.moves.specs.declared.step.Next.the-variants as next
 use Rattle.moves.specs.declared.step.Step.{Step}
@@ -86,7 +87,7 @@ thread-at {at = at} t ts h o =
     }
 
 -- Room stays.
-still-roomy : {s out out₁ m m₁ message message₁ : List ℕ} {k to low high low₁ high₁ : ℕ} → Within low high m m₁ → Within low₁ high₁ out out₁
+pub still-roomy : {s out out₁ m m₁ message message₁ : List ℕ} {k to low high low₁ high₁ : ℕ} → Within low high m m₁ → Within low₁ high₁ out out₁
     → length message₁ ≡ length message → Roomy s out m message k to → Roomy s out₁ m₁ message₁ k to
 still-roomy wm wo e o = record {
   short = o .short;
@@ -179,7 +180,22 @@ module _ {s : List ℕ} {at k to : ℕ} {m : List ℕ} {copy mode x y left : ℕ
           (pass .first start (record { before = ls; thread = t; behind = ts }) (threads-kept (t ∷ ts) wo (omega arith) h)
           (still-roomy wm wo same o) place zero two (omega arith))
 
-pub ruleset joinings = (joins-end, joins-short, joins-spent, joins-found, joins-passed)
+  -- Where no repl thread is meant, there are none before it.
+  pub joins-first : {said : List ℕ} {r : Next} → copy ≡ 0 → (left ≡ 0 → ⊥) → Passes s at k to m 0 2 (left - 1) out message r said
+      → Joins s at k to m copy mode x y left out message r said
+  joins-first {said} {r} zero some pass = record {
+    first = λ start ls ts h o place z two l. of start ls ts h o place two l;
+    later = λ start p pre post w h o place listed mark low high l. absurd (omega arith);
+  }
+    where
+      of : (start : ℕ) (ls ts : List Placed) → Threads s out at k ts to → Roomy s out m message k to
+          → at ≡ start + length (encodeRecords ls) → mode ≡ 2 → 8193 ≤ left → Shown start said r (copyMoves k (spotsFrom ls ts))
+      of start ls [] h o place two l = absurd (omega (arith, no-threads h))
+      of start ls (t ∷ ts) h o place two l =
+          rw (moves-first k ls t ts)
+          (pass .first start (record { before = ls; thread = t; behind = ts }) h o place refl refl (omega arith))
+
+pub ruleset joinings = (joins-end, joins-short, joins-spent, joins-found, joins-first)
 
 -- After one copy come two.
 pub passes-two : {s : List ℕ} {at k to : ℕ} {m : List ℕ} {copy mode left : ℕ} {out message : List ℕ} {r : Next} {said : List ℕ} → mode ≡ 1
@@ -190,6 +206,30 @@ passes-two {k = k} {r = r} {said = said} one join = record {
       let two = join .later start p pre post w h o place listed mark (omega arith) (omega arith) (omega arith) in
       let both : Shown start said r (afterwards k p 1 w post) = rw (moves-two k p w post) at two in
       rw one both;
+}
+
+-- The threads behind the first one, where that one has no silent step.
+behind-shown : {s : List ℕ} {at k to : ℕ} {m out message m₁ out₁ : List ℕ} {r : Next} {said : List ℕ} {low high size : ℕ}
+    → Within low high m m₁ → Within to (length out) out out₁ → size ≡ numberAt out (at + 2)
+    → Joins s (at + 4 + size) k to m₁ 0 2 0 0 8193 out₁ message r said → (start : ℕ) (p : Spot) → Threads s out at k (p .thread ∷ p .behind) to
+    → Roomy s out m message k to → at ≡ recordAt start p → Shown start said r (copyMoves k (laterSpots p))
+behind-shown {at = at} {size = size} wm wo z join start p h o place =
+    let (a, b, rest) = first-thread (p .thread) (p .behind) h in
+    let here : at + length (encodeRecord (p .thread)) ≡ at + 4 + size = omega (arith, record-end (p .thread) (p .behind) h) in
+    let kept = threads-kept (p .behind) wo (omega arith) (rw here at rest) in
+    join .first start (p .before ++ (p .thread ∷ [])) (p .behind) kept (still-roomy wm wo refl o)
+    (omega (arith, records-further (p .before) (p .thread))) refl refl (omega arith)
+
+-- It may have none in its copies.
+pub passes-barren : {s : List ℕ} {at k to : ℕ} {m : List ℕ} {left size : ℕ} {out message : List ℕ} {r : Next} {said : List ℕ} {b : Bool}
+    → Barren s at out b → b ≡ true → size ≡ numberAt out (at + 2) → Joins s (at + 4 + size) k to m 0 2 0 0 8193 out message r said
+    → Passes s at k to m 0 2 left out message r said
+passes-barren {at = at} {k = k} {to = to} {out = out} x is z join = record {
+  first = λ start p h o place zero two l.
+      let (record-at, j, rest) = first-thread (p .thread) (p .behind) h in
+      rw (x .exact is p k record-at)
+      (behind-shown (unchanged {low = 0} {high = 0}) (unchanged {low = to} {high = length out}) z join start p h o place);
+  later = λ start p pre post w h o place listed mark low high l. absurd (omega arith);
 }
 
 -- After two copies comes the next repl thread, or the next thread.
@@ -209,13 +249,7 @@ module _ {s : List ℕ} {at k to : ℕ} {m : List ℕ} {copy mode left : ℕ} {o
         by-copies : (start : ℕ) (p : Spot) → Threads s out at k (p .thread ∷ p .behind) to → Roomy s out m message k to
             → at ≡ recordAt start p → (ws : List Opened) → ShowsCopy found ws
             → Shown start said r (flatMap (groupMoves p) ws ++ copyMoves k (laterSpots p))
-        by-copies start p h o place [] e =
-            let (a, b, rest) = first-thread (p .thread) (p .behind) h in
-            let here : at + length (encodeRecord (p .thread)) ≡ at + 4 + size = omega (arith, record-end (p .thread) (p .behind) h) in
-            let kept = threads-kept (p .behind) wo (omega arith) (rw here at rest) in
-            rw (groups-none k p)
-            (join .first start (p .before ++ (p .thread ∷ [])) (p .behind) kept (still-roomy wm wo refl o)
-            (omega (arith, records-further (p .before) (p .thread))) refl refl (omega arith))
+        by-copies start p h o place [] e = rw (groups-none k p) (behind-shown wm wo z join start p h o place)
         by-copies start p h o place (w ∷ ws) e = absurd (true≢false (sym on ∙ e .0))
 
     pub passes-copy : found .going ≡ false → Joins s at k to m₁ (found .mark) 1 0 0 left out₁ message r said
@@ -239,4 +273,4 @@ module _ {s : List ℕ} {at k to : ℕ} {m : List ℕ} {copy mode left : ℕ} {o
             (join .later start p pre ws w (threads-kept (p .thread ∷ p .behind) wo (omega arith) h) (still-roomy wm wo refl o) place listed
             (e .1) (omega arith) (omega arith) (omega arith))
 
-pub ruleset passings = (passes-two, passes-thread, passes-copy)
+pub ruleset passings = (passes-two, passes-barren, passes-thread, passes-copy)

@@ -28,8 +28,10 @@ use Rattle.threads.specs.Thread.{Seeks}
 use Rattle.threads.specs.declared.task.Task.the-variants.{Seek}
 use Rattle.threads.specs.declared.task.Quest.{Quest}
 use Rattle.walks.specs.Walking.{atPrefix, go}
-use Rattle.forms.specs.Visit.{nothingYet, Begins, Labelled, RecordAt, Visits}
-use Rattle.forms.proofs.Laws.Visit.{begins-shown, bound-short}
+use Rattle.walks.specs.Seek.{begunAt, reached, SeekWalks}
+use Rattle.walks.specs.declared.seek.Sought.{Sought}
+use Rattle.forms.specs.Visit.{nothingYet, Begins, Labelled, RecordAt}
+use Rattle.forms.proofs.Laws.Visit.{begins-shown, bound-short, visited}
 use Rattle.positions.specs.Located.{acting}
 use Rattle.positions.specs.Sought.{first, offersBut}
 use Rattle.positions.proofs.Laws.SeekFirst.{soughtFirst}
@@ -52,12 +54,15 @@ thread-sought t q x {k} n j l e = of (t .thread) (copiesAlike (t .thread) k n (j
     of (repl ρ P) o =
         soughtFirst q n x (processOf (repl ρ P)) (t .place) ρ (nothingYet n) refl (rw o) ∙ rw (e, offersBut)
 
-pub looks-walked : (s label : List ℕ) (at : ℕ) {to : ℕ} (m : List ℕ) (q : Quest) (n : ℕ) (out : List ℕ) {now r : Progress} {after : List ℕ}
-    → Begins to n now → Visits s label at m (Seek q n) out now r after → Looks s label at to m q n out r after
-looks-walked s label at m q n out {now} begins v = record {
-  exact = λ t x p j kn b d l1 l2 l3 l4.
-      let w = v .exact t x (nothingYet n) p d l1 l2 (l4 also l4 also none) tt (begins-shown now begins l3) in
-      rw (thread-sought t q x n j kn b) at w;
+-- It is loaded, and the walk that seeks goes over it.
+pub looks-walked : {s label m m₁ out after : List ℕ} {at to n : ℕ} {q : Quest} {l : Loaded} {a : Sought} {r : Progress} → Loads out at l m₁
+    → Within 0 (l .end) m m₁ → SeekWalks s label (l .place) 64 m₁ (l .end) q n n to out a after → r ≡ reached to a
+    → Looks s label at to m q n out r after
+looks-walked {to = to} {n} {q} d w v e = record {
+  exact = λ t x p j kn b i l1 l2 l3 l4.
+      let begins : Begins to n (begunAt to n) = record { on = refl; next = refl; state = refl } in
+      let z = visited d w (v .walks) .exact t x (nothingYet n) p i l1 l2 (l4 also l4 also none) tt (begins-shown (begunAt to n) begins l3) in
+      rw e (rw (thread-sought t q x n j kn b) at z);
 }
 
 -- No process stands there.
@@ -75,7 +80,7 @@ pub looks-alone : {s label m out after : List ℕ} {at place to n kind : ℕ} {q
     → kind ≡ getD s place 0 → (kind ≡ 7 → ⊥) → Alone s label at place to m q n out r after → Looks s label at to m q n out r after
 looks-alone p e z v = v .exact p (λ f. z (e ∙ f))
 
-pub ruleset looks = (looks-walked, looks-nowhere, looks-alone)
+pub ruleset looks = (looks-nowhere, looks-alone)
 
 -- It is loaded, and its own offer is looked at: there is room for its messages, and for more.
 module _ {m m₁ out : List ℕ} {at : ℕ} {l : Loaded} (d : Loads out at l m₁) (w : Within 0 (l .end) m m₁) where

@@ -59,7 +59,7 @@ module _ {s label out : List ℕ} {at to skip : ℕ} {q : Quest} where
     where
       of : (m : List ℕ) (n : ℕ) {r : Sighting} {after : List ℕ} → Seeks s label (i + 4 + size) to m f skip n out r after
           → (ps : List Placed) (x : Message) {k : ℕ} → Threads s out i k ps to → k ≤ n → here .but ≡ 0 → Labelled label x
-          → length s ≤ 12288 → 10750 ≤ length m → to + 3964 ≤ length out → n ≤ 28664
+          → length s ≤ 36864 → 10750 ≤ length m → to + 3964 ≤ length out → n ≤ 28664
           → ShowsSight after r (firstAmong here x n skip i ps)
       of m n v [] x h kn b l l1 l2 l3 l4 = absurd (omega (arith, no-threads h))
       of m n v (t ∷ ts) x h kn b l l1 l2 l3 l4 =

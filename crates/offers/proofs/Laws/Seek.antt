@@ -88,7 +88,7 @@ module _ (s label : List ℕ) (at to : ℕ) (m : List ℕ) (q : Quest) (skip n :
 
   module _ (some : at < to) {r₁ : Progress} {out₁ : List ℕ} (v : Looks s label at to m q n out r₁ out₁) (differs : at ≡ skip → ⊥) where
     looked : (t : Placed) (ts : List Placed) (x : Message) {k : ℕ} → Threads s out at k (t ∷ ts) to → k ≤ n → q .but ≡ 0
-        → Labelled label x → length s ≤ 12288 → 10750 ≤ length m → to + 3964 ≤ length out → n ≤ 28664
+        → Labelled label x → length s ≤ 36864 → 10750 ≤ length m → to + 3964 ≤ length out → n ≤ 28664
         → ShowsCourse s out₁ r₁ (first q x (offersOf t n) (going (nothingYet n)))
     looked t ts x h kn b d l1 l2 l3 l4 = let (p, j, rest) = first-thread t ts h in v .exact t x p j kn b d l1 l2 l3 l4
 
@@ -97,7 +97,7 @@ module _ (s label : List ℕ) (at to : ℕ) (m : List ℕ) (q : Quest) (skip n :
     seek-found o = record { exact = of }
       where
         of : (ps : List Placed) (x : Message) {k : ℕ} → Threads s out at k ps to → k ≤ n → q .but ≡ 0 → Labelled label x
-            → length s ≤ 12288 → 10750 ≤ length m → to + 3964 ≤ length out → n ≤ 28664
+            → length s ≤ 36864 → 10750 ≤ length m → to + 3964 ≤ length out → n ≤ 28664
             → ShowsSight out₁ (record { at = at; done = r₁ }) (firstAmong q x n skip at ps)
         of [] x h kn b d l1 l2 l3 l4 = absurd (omega (arith, no-threads h))
         of (t ∷ ts) x h kn b d l1 l2 l3 l4 =
@@ -110,7 +110,7 @@ module _ (s label : List ℕ) (at to : ℕ) (m : List ℕ) (q : Quest) (skip n :
     seek-passed {r} {m₁} {after} o wm wo later = record { exact = of }
       where
         of : (ps : List Placed) (x : Message) {k : ℕ} → Threads s out at k ps to → k ≤ n → q .but ≡ 0 → Labelled label x
-            → length s ≤ 12288 → 10750 ≤ length m → to + 3964 ≤ length out → n ≤ 28664
+            → length s ≤ 36864 → 10750 ≤ length m → to + 3964 ≤ length out → n ≤ 28664
             → ShowsSight after r (firstAmong q x n skip at ps)
         of [] x h kn b d l1 l2 l3 l4 = absurd (omega (arith, no-threads h))
         of (t ∷ ts) x h kn b d l1 l2 l3 l4 =

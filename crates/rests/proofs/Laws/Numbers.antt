@@ -1,7 +1,7 @@
 -- The offer at a mark is reached from the record of its thread, and in the copies of a repl thread; the private names of what follows it are
 -- counted ("Steps"). Assumes nothing.
 use mathlib.Core.Path.{_≡_, sym, _∙_}
-use mathlib.Core.Bool.{true, false, true≢false}
+use mathlib.Core.Bool.{true, false}
 use mathlib.Core.List.{List, _∷_, _++_}
 use Prim.Native.Nat.{ℕ, _+_, _-_, _*_, _≤_, _<_}
 use native.Mathlib.Omega.{arith}
@@ -25,30 +25,30 @@ use Rattle.terms.specs.Bound.{encodeBound}
 use Rattle.states.specs.Place.{ProcessAt}
 use Rattle.states.specs.Record.{Placed, processOf, boundOf}
 use Rattle.walks.specs.News.{news}
+use Rattle.walks.specs.Count.{countOf}
+use Rattle.walks.specs.declared.count.Counted.{Counted}
 use Rattle.states.specs.Stored.{Loads}
 use Rattle.threads.specs.declared.task.Task.the-variants.{Count}
 use Rattle.threads.specs.declared.task.CopyAt.{CopyAt}
 use Rattle.states.specs.declared.stored.Loaded.{Loaded}
-use Rattle.states.specs.declared.progress.Progress.{Progress}
 use Rattle.walks.proofs.Laws.Fits.{later-fewer}
-use Rattle.states.proofs.Laws.Progress.{to-end, to-end-again}
+use Rattle.states.proofs.Laws.Progress.{to-end, to-end-again, to-end-twice}
 use Rattle.states.proofs.Laws.Process.{process-kind}
 use Rattle.positions.specs.Located.{Acting, acting}
 use Rattle.positions.specs.Joint.{actingBut}
 use Rattle.positions.specs.Sought.{Opened, offersBut}
 use Rattle.positions.proofs.Laws.Walking.{Free, free-later}
-use Rattle.forms.specs.Visit.{Begins}
-use Rattle.forms.specs.Visit.{nothingYet}
-use Rattle.ways.specs.Reach.{offerSite, copySite, Allowed, Reaches, CountsRest}
+use Rattle.ways.specs.Reach.{offerSite, copySite, Allowed, Arrives, Reaches, CountsRest}
+use Rattle.moves.specs.Outcome.{boundAfter}
 use Rattle.moves.specs.CopyOffers.{ThreadAt, copyOffers}
-use Rattle.rests.specs.Numbers.{Comes, Entered, Enters, CountsCopy, Counts, CountsIn, CountsBehind}
-use Rattle.ways.specs.declared.reach.Reached.{Reached}
-use Rattle.ways.specs.declared.count.Counted.{Counted}
+use Rattle.forms.specs.Visit.{Labelled}
+use Rattle.rests.specs.Numbers.{Comes, Entered, Enters, Counts, CountsIn}
+use Rattle.ways.specs.declared.reach.Way.{Way}
 use Rattle.moves.proofs.Laws.LimitsPairs.{but-every}
 use Rattle.forms.proofs.Laws.Visit.{bound-short, names-small}
 use Rattle.ways.proofs.Laws.ReachDown.{offers-down, copies-down}
+use Rattle.ways.proofs.Laws.ReachKinds.{reaches-here}
 use Rattle.ways.proofs.Laws.ReachOffers.{reached-offers, arrived-copy, arrived-rest, thread-prepared, thread-allowed}
-use Rattle.forms.proofs.Laws.Visit.{begins-shown, behind}
 use Rattle.moves.proofs.Laws.Opened.{names-later, opened-all, judged-clear}
 
 -- What holds at every place of a list holds at one that is listed.
@@ -60,7 +60,7 @@ listed-one {Q = Q} before a after e p = first (every-parts before (rw e at p) .1
     first (q also qs) = q
 
 -- Small names fit whatever process stands in a model.
-names-fitting : {s : List ℕ} {at left scope next : ℕ} (n : ℕ) (P : Process) → ProcessAt s at left scope P next → length s ≤ 12288 → n ≤ 28664
+names-fitting : {s : List ℕ} {at left scope next : ℕ} (n : ℕ) (P : Process) → ProcessAt s at left scope P next → length s ≤ 36864 → n ≤ 28664
     → n + news P ≤ 32760
 names-fitting n P p short h = names-small Count n P p short (h also none) .own
 
@@ -69,46 +69,49 @@ pub thread-room : {s out m : List ℕ} {at k to : ℕ} (t : Placed) → ThreadAt
     → length (encodeBound (boundOf (t .thread))) + 512 * variables (processOf (t .thread)) + 4606 ≤ length m
 thread-room t h = omega (arith, bound-short t (h .recorded), h .recorded .standing .process .few, h .wide)
 
-pub thread-arrives : {s label m m₁ m₂ out : List ℕ} {at k to mark : ℕ} {now : Progress} {r : Reached} {l : Loaded} → Loads out at l m₁
-    → Within 0 (l .end) m m₁ → Begins to k now → Reaches s label (l .place) 64 m₁ (l .end) mark 0 k out now r m₂
-    → Comes s label at k to m mark out r m₂
-thread-arrives {k} {now} d w b f = record {
-  exact = λ t x v {j} h i later small down e.
+pub thread-arrives : {s m m₁ m₂ out : List ℕ} {at k mark : ℕ} {r : Way} {l : Loaded} → Loads out at l m₁ → Within 0 (l .end) m m₁
+    → Reaches s m₁ (record { at = l .place; left = 64; end = l .end; names = 0; opens = k }) mark r m₂ → Comes s at k m mark out r m₂
+thread-arrives {k = k} d w f = record {
+  exact = λ t v {j} h later small down e.
       let P = processOf (t .thread) in
       let ρ = boundOf (t .thread) in
       let stands = h .recorded .standing in
       let room = thread-room t h in
       let few : length (encodeBound ρ) < 65536 = omega (arith, bound-short t (h .recorded), stands .process .few) in
       let (place, next, bound) = d .exact t (h .recorded .stands) (stands .fits) few (omega (arith, w .long)) in
-      let here = rw place at f in
-      here .exact P x ρ (nothingYet k) v
-      (thread-prepared t stands (h .short) i (record { stands = bound; few = omega (arith, stands .process .few); normal = stands .normal })
-      (omega (arith, w .long, bound .size)))
-      (thread-allowed (t .thread) k (copiesAlike (t .thread) j k (h .judged .stored) later ∙ h .judged .free)
-      (names-fitting k P (stands .process) (h .short) small))
-      (begins-shown now b (h .room)) down e;
+      (rw place at f) .exact v (record {
+        process = P;
+        bound = ρ;
+        prepared =
+            thread-prepared t stands (record { stands = bound; few = omega (arith, stands .process .few); normal = stands .normal })
+            (omega (arith, w .long, bound .size));
+        allowed =
+            thread-allowed (t .thread) k (copiesAlike (t .thread) j k (h .judged .stored) later ∙ h .judged .free)
+            (names-fitting k P (stands .process) (h .short) small);
+        down = down;
+      }) e;
 }
 
+-- The mark is that of the thread itself.
+pub thread-itself : {s m m₁ out : List ℕ} {at k mark : ℕ} {l : Loaded} → Loads out at l m₁ → Within 0 (l .end) m m₁ → l .place + 1 ≡ mark
+    → Comes s at k m mark out (record { at = l .place; left = 64; end = l .end; names = 0; opens = k }) m₁
+thread-itself d w e = thread-arrives d w (reaches-here e)
+
+pub ruleset arriving = (thread-arrives, thread-itself)
+
 -- What follows an offer that was reached is counted.
-module _ {s label m out : List ℕ} {to n : ℕ} {r : Reached} {c : Counted} where
-  pub behind-there : {now : Progress} → Begins to n now → CountsRest s label (r .at) (r .left) m (r .end) n out now c
-      → CountsBehind s label r to m n out c
-  behind-there {now} b f = record {
-    exact = λ x a d small room.
-        arrived-rest a (nothingYet n) d f (names-fitting n (Process.act (a .prefix) (a .rest)) (d .prepared .process) (d .prepared .short) small)
-        (begins-shown now b room);
-  }
+behind-counted : {s label m : List ℕ} {n i : ℕ} {r : Way} {c : Counted} {x : Message} (a : Acting) → length s ≤ 36864
+    → CountsRest s label (r .at) (r .left) m (r .end) n c → Arrives s m r (offerSite a i) → Labelled label x → n ≤ 28664
+    → c ≡ countOf (a .rest) (boundAfter x a) n
+behind-counted {n = n} a short f d i small =
+    arrived-rest a d i f (names-fitting n (Process.act (a .prefix) (a .rest)) (d .prepared .process) short small)
 
-  pub behind-nowhere : r .there ≡ false → CountsBehind s label r to m n out c
-  behind-nowhere off = record { exact = λ x a d small room. absurd (true≢false (sym (d .there) ∙ off)) }
-
-pub count-behind : {s label m m₁ out out₁ : List ℕ} {at k to mark n high : ℕ} {r : Reached} {c : Counted}
-    → Comes s label at k to m mark out r m₁ → Within to high out out₁ → CountsBehind s label r to m₁ n out₁ c
-    → Counts s label at k to m mark n out c
-count-behind {k = k} f w g = record {
+pub thread-counted : {s label m m₁ out : List ℕ} {at k mark n : ℕ} {r : Way} {c : Counted} → length s ≤ 36864
+    → Comes s at k m mark out r m₁ → CountsRest s label (r .at) (r .left) m₁ (r .end) n c → Counts s label at k m mark n out c
+thread-counted {k = k} short f g = record {
   exact = λ t x before after a h i later small few listed e.
       let (j, d) = listed-one before a after listed (offers-down (processOf (t .thread)) (t .place) (boundOf (t .thread)) 0 k) in
-      g .exact x a (f .exact t x (offerSite a j) h i later small d e) few (omega (arith, h .room, w .long));
+      behind-counted a short g (f .exact t (offerSite a j) h later small d e) i few;
 }
 
 -- The offers of a copy are some of the offers of what is copied.
@@ -130,8 +133,8 @@ unfolding copyOffers
 second-offers but c w some e = rw (ne-eqb (c .mode) 0 (λ z. omega arith), ne-eqb (c .mode) 1 e, copyOffers)
 
 -- The same copy, and the repl thread, meet no limit where copies open at the second name.
-module _ {s label m out : List ℕ} {to mark : ℕ} {thread : Reached} {c : CopyAt} {x : Message} (w : Opened) {a : Acting}
-    (e : Entered s label thread to m c mark out x w a) where
+module _ {s m : List ℕ} {mark : ℕ} {thread : Way} {c : CopyAt} (short : length s ≤ 36864) (w : Opened) {a : Acting}
+    (e : Entered s thread m c mark w a) where
   same-allowed : Allowed (w .copied) (w .bound) (w .opens) (c .second)
   same-allowed =
       let (y, h) = arrived-copy w (e .arrived) in
@@ -140,7 +143,7 @@ module _ {s label m out : List ℕ} {to mark : ℕ} {thread : Reached} {c : Copy
       let free = free-later (w .copied) own (c .second) (e .stored) (le-refl own) (e .later .after (e .again)) first in
       record {
         own = h .own;
-        later = omega (arith, later-fewer (w .copied), names-fitting (c .second) (w .copied) (y .process) (y .short) (e .later .small));
+        later = omega (arith, later-fewer (w .copied), names-fitting (c .second) (w .copied) (y .process) short (e .later .small));
         settling = free .settling;
         offering = free .offering;
       }
@@ -148,105 +151,84 @@ module _ {s label m out : List ℕ} {to mark : ℕ} {thread : Reached} {c : Copy
   second-allowed : Allowed (Process.repl (w .copied)) (w .bound) 0 (c .second)
   unfolding settle anyOf
   second-allowed =
-      let y = e .arrived .prepared in
       let k = w .opens in
       let u = repl (w .bound) (w .copied) in
       let later : k ≤ c .second = omega (arith, names-later (w .copied) (w .bound) k, e .later .after (e .again)) in
       let free = neither (overOffers u k) _ (e .arrived .allowed .offering) .0 in
       thread-allowed u (c .second) (copiesAlike u k (c .second) (e .stored) later ∙ free)
-      (names-fitting (c .second) (Process.repl (w .copied)) (y .process) (y .short) (e .later .small))
+      (names-fitting (c .second) (Process.repl (w .copied)) (e .arrived .prepared .process) short (e .later .small))
 
-module _ {s label m out : List ℕ} {to mark : ℕ} {thread r : Reached} {c : CopyAt} {m₁ : List ℕ} where
-  pub enter-same : {now : Progress} → Begins to (c .second) now → c .mode ≡ 1
-      → Reaches s label (thread .at + 1) (thread .left - 1) m (thread .end) mark (thread .next) (c .second) out now r m₁
-      → Enters s label thread to m c mark out r m₁
-  enter-same {now} b one f = record {
-    exact = λ x w a e.
-        let k = c .second in
-        let g = rw (e .arrived .place, e .arrived .next) at f in
-        let reached =
-        reached-offers g (w .copied) x (w .bound) (nothingYet k) (arrived-copy w (e .arrived) .0) (same-allowed w e)
-        (begins-shown now b (e .room)) in
+module _ {s m m₁ : List ℕ} {mark : ℕ} {thread r : Way} {c : CopyAt} where
+  pub enter-same : length s ≤ 36864 → c .mode ≡ 1
+      → Reaches s m (record { at = thread .at + 1; left = thread .left - 1; end = thread .end; names = thread .opens; opens = c .second })
+      mark r m₁ → Enters s thread m c mark r m₁
+  enter-same short one f = record {
+    exact = λ w a e.
+        let g = rw (e .arrived .place, e .arrived .opens) at f in
+        let reached = reached-offers g (w .copied) (w .bound) (arrived-copy w (e .arrived) .0) (same-allowed short w e) in
         listed-one (e .before) a (e .behind) (sym (same-offers (e .but) c w one) ∙ e .listed)
-        (some-offers (e .but) (w .copied) (w .place + 1) (w .bound) (w .opens) k reached) (e .meant);
+        (some-offers (e .but) (w .copied) (w .place + 1) (w .bound) (w .opens) (c .second) reached) (e .meant);
   }
 
-  pub enter-second : {now : Progress} → Begins to (c .second) now → (c .mode ≡ 1 → ⊥)
-      → Reaches s label (thread .at) (thread .left) m (thread .end) mark 0 (c .second) out now r m₁
-      → Enters s label thread to m c mark out r m₁
+  pub enter-second : length s ≤ 36864 → (c .mode ≡ 1 → ⊥)
+      → Reaches s m (record { at = thread .at; left = thread .left; end = thread .end; names = 0; opens = c .second }) mark r m₁
+      → Enters s thread m c mark r m₁
   unfolding acting
-  enter-second {now} b other f = record {
-    exact = λ x w a e.
+  enter-second short other f = record {
+    exact = λ w a e.
         let k = c .second in
         let g = rw (e .arrived .place) at f in
-        let reached =
-        reached-offers g (Process.repl (w .copied)) x (w .bound) (nothingYet k) (e .arrived .prepared) (second-allowed w e)
-        (begins-shown now b (e .room)) in
+        let reached = reached-offers g (Process.repl (w .copied)) (w .bound) (e .arrived .prepared) (second-allowed short w e) in
         listed-one (e .before) a (e .behind) (sym (second-offers (e .but) c w (e .again) other) ∙ e .listed)
         (some-offers (e .but) (w .copied) (w .place + 1) (w .bound) k (names (w .copied) (w .bound) k) reached) (e .meant);
   }
 
   -- A repl thread that was reached stands in the model, and takes a node.
-  pub enter-short : thread .left ≡ 0 → Enters s label thread to m c mark out r m₁
+  pub enter-short : thread .left ≡ 0 → Enters s thread m c mark r m₁
   enter-short z = record {
-    exact = λ x w a e. absurd (omega (arith, process-kind (Process.repl (w .copied)) (e .arrived .prepared .process) .2));
+    exact = λ w a e. absurd (omega (arith, process-kind (Process.repl (w .copied)) (e .arrived .prepared .process) .2));
   }
 
-  pub enter-past : length s ≤ thread .at → Enters s label thread to m c mark out r m₁
+  pub enter-past : length s ≤ thread .at → Enters s thread m c mark r m₁
   enter-past z = record {
-    exact = λ x w a e.
-        absurd (omega (arith, e .arrived .place, process-kind (Process.repl (w .copied)) (e .arrived .prepared .process) .1));
+    exact = λ w a e. absurd (omega (arith, e .arrived .place, process-kind (Process.repl (w .copied)) (e .arrived .prepared .process) .1));
   }
 
 pub ruleset entering = (enter-same, enter-second, enter-short, enter-past)
 
-pub copy-behind : {s label m m₁ out out₁ : List ℕ} {to mark n high : ℕ} {thread r : Reached} {c : CopyAt} {v : Counted}
-    → Enters s label thread to m c mark out r m₁ → Within to high out out₁ → CountsBehind s label r to m₁ n out₁ v
-    → CountsCopy s label thread to m c mark n out v
-copy-behind f w g = record {
-  exact = λ x o a e small. let (i, d) = f .exact x o a e in g .exact x a d small (omega (arith, e .room, w .long));
+pub copy-counted : {s label m m₁ m₂ out : List ℕ} {at k mark n : ℕ} {thread r : Way} {c : CopyAt} {v : Counted} → length s ≤ 36864
+    → Comes s at k m (c .place) out thread m₁ → Enters s thread m₁ c mark r m₂ → CountsRest s label (r .at) (r .left) m₂ (r .end) n v
+    → CountsIn s label at k m c mark n out v
+copy-counted {k = k} short f g v = record {
+  exact = λ t x pre post w before after a h i small copied place again later but listed e.
+      let P = processOf (t .thread) in
+      let ρ = boundOf (t .thread) in
+      let (j, d) = listed-one pre w post copied (copies-down P (t .place) ρ 0 k) in
+      let opening = listed-one pre w post copied (opened-all P (t .place) ρ 0 k (judged-clear t 0 (h .judged))) in
+      let (o, reached) = g .exact w a (record {
+        settled = j;
+        arrived = f .exact t (copySite w j) h (le-refl k) (omega (arith, h .few)) d place;
+        stored = opening .stored;
+        again = again;
+        later = later;
+        but = but;
+        before = before;
+        behind = after;
+        listed = listed;
+        meant = e;
+      }) in
+      behind-counted a short v reached i small;
 }
 
-module _ {s label m m₁ out : List ℕ} {at k to mark n : ℕ} {thread : Reached} {c : CopyAt} {v : Counted}
-    (f : Comes s label at k to m (c .place) out thread m₁) where
-  pub in-there : {out₁ : List ℕ} {high : ℕ} → Within to high out out₁ → CountsCopy s label thread to m₁ c mark n out₁ v
-      → CountsIn s label at k to m c mark n out v
-  in-there o g = record {
-    exact = λ t x pre post w before after a h i small copied place again later but listed e.
-        let P = processOf (t .thread) in
-        let ρ = boundOf (t .thread) in
-        let (j, d) = listed-one pre w post copied (copies-down P (t .place) ρ 0 k) in
-        let opening = listed-one pre w post copied (opened-all P (t .place) ρ 0 k (judged-clear t 0 (h .judged))) in
-        g .exact x w a (record {
-          settled = j;
-          arrived = f .exact t x (copySite w j) h i (le-refl k) (omega (arith, h .few)) d place;
-          stored = opening .stored;
-          again = again;
-          later = later;
-          but = but;
-          before = before;
-          behind = after;
-          listed = listed;
-          meant = e;
-          room = omega (arith, h .room, o .long);
-        }) small;
-  }
-
-  pub in-nowhere : thread .there ≡ false → CountsIn s label at k to m c mark n out v
-  in-nowhere off = record {
-    exact = λ t x pre post w before after a h i small copied place again later but listed e.
-        let (j, d) = listed-one pre w post copied (copies-down (processOf (t .thread)) (t .place) (boundOf (t .thread)) 0 k) in
-        absurd (true≢false (sym (f .exact t x (copySite w j) h i (le-refl k) (omega (arith, h .few)) d place .there) ∙ off));
-  }
-
-pub ruleset counting = (behind-there, behind-nowhere, count-behind, copy-behind, in-there, in-nowhere)
-
--- What two calls write stands behind the state, and in m anywhere.
-pub behind-twice : {to n : ℕ} {now : Progress} {out out₁ out₂ : List ℕ} {high high₁ : ℕ} → Begins to n now → Within to high out out₁
-    → Within (now .state .end) high₁ out₁ out₂ → Within to (length out) out out₂
-behind-twice b w v = to-end-again w (behind b v)
-
+-- What is written stands in m anywhere, after one call, after two and after three.
 pub from-front : {s t : List ℕ} {low high : ℕ} → Within low high s t → Within 0 (length s) s t
 from-front w = wider (to-end w) (omega arith) (omega arith)
 
-pub ruleset frames = (behind, behind-twice, from-front, unchanged)
+pub after-two : {s t u : List ℕ} {low high high₁ : ℕ} → Within 0 high s t → Within low high₁ t u → Within 0 (length s) s u
+after-two w v = to-end-twice w v (omega arith)
+
+pub after-three : {s t u v : List ℕ} {low high high₁ high₂ : ℕ} → Within 0 high s t → Within 0 high₁ t u → Within low high₂ u v
+    → Within 0 (length s) s v
+after-three a b c = after-two (to-end-again a b) c
+
+pub ruleset frames = (from-front, after-two, after-three, unchanged)

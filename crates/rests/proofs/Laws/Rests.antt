@@ -14,14 +14,14 @@ use Rattle.rests.specs.Numbers.{Counts, CountsIn}
 use Rattle.rests.specs.Rests.{onlyOf, thenOf, CountsActor, CountsTaker, stepCopies}
 use Rattle.moves.specs.declared.step.Step as step
 use Rattle.moves.specs.declared.step.Actor.{Actor}
-use Rattle.ways.specs.declared.count.Counted.{Counted}
-use Rattle.ways.specs.declared.count.Counted.the-variants as counted
+use Rattle.walks.specs.declared.count.Counted.{Counted}
+use Rattle.walks.specs.declared.count.Counted.the-variants as counted
 use Rattle.rests.specs.declared.names.Rests.the-variants as rests
 use Rattle.moves.proofs.Laws.Records.{record-long}
 use Rattle.moves.proofs.Laws.CopyMoves.{mode-of}
 
 -- A record that stands before a position takes at least four bytes of those before it.
-record-below : {s out m : List ℕ} {at k to : ℕ} (t : Placed) → ThreadAt s out m at k to t → at + 4 ≤ to
+pub record-below : {s out m : List ℕ} {at k to : ℕ} (t : Placed) → ThreadAt s out m at k to t → at + 4 ≤ to
 record-below t h = omega (arith, h .recorded .stands .size, record-long t, h .below)
 
 -- So where there is no room for one, nothing is to be counted.
@@ -51,7 +51,7 @@ module _ {s : List ℕ} {st : code.State} {message m out : List ℕ} {n : ℕ} {
   }
 
   -- The offer that acts is the one at the mark of the actor.
-  pub actor-counted : {v : Actor} {k : ℕ} → Counts s message (v .at) k (st .end) m (v .mark) n out r → CountsActor s st v k n message m out r
+  pub actor-counted : {v : Actor} {k : ℕ} → Counts s message (v .at) k m (v .mark) n out r → CountsActor s st v k n message m out r
   actor-counted {v} {k} c = record {
     exact = λ p a x before after h i few e f.
         let here : recordAt (st .start) p ≡ v .at = sym (ap (λ (w : Actor). w .at) f) in
@@ -61,7 +61,7 @@ module _ {s : List ℕ} {st : code.State} {message m out : List ℕ} {n : ℕ} {
 
 -- The copies of a taker in another thread open after those of the sender; one in the copies of a repl thread takes in these.
 module _ {s : List ℕ} {st : code.State} {message m out : List ℕ} {n : ℕ} {r : Counted} {v : step.Step} where
-  pub taker-between : v .mode ≡ 0 → Counts s message (v .taker .at) (v .sender .next) (st .end) m (v .taker .mark) n out r
+  pub taker-between : v .mode ≡ 0 → Counts s message (v .taker .at) (v .sender .next) m (v .taker .mark) n out r
       → CountsTaker s st v n message m out r
   unfolding stepOf
   taker-between e c = record {
@@ -76,7 +76,7 @@ module _ {s : List ℕ} {st : code.State} {message m out : List ℕ} {n : ℕ} {
   }
 
   pub taker-inside : {c : CopyAt} → (v .mode ≡ 0 → ⊥) → c ≡ stepCopies v
-      → CountsIn s message (v .taker .at) (st .names) (st .end) m c (v .taker .mark) n out r → CountsTaker s st v n message m out r
+      → CountsIn s message (v .taker .at) (st .names) m c (v .taker .mark) n out r → CountsTaker s st v n message m out r
   unfolding stepOf
   taker-inside e own c = record {
     between = λ p q u x before after h i low small few g f. absurd (e (ap (λ (w : step.Step). w .mode) f));
@@ -86,7 +86,7 @@ module _ {s : List ℕ} {st : code.State} {message m out : List ℕ} {n : ℕ} {
         let same : _≡_ {A = CopyAt} _ (takersAt mode w (u .sender)) =
         own ∙ ap stepCopies f
         ∙ ap (λ (i : ℕ). record { place = w .place + 1; mode = i; second = u .sender .next }) (mode-of mode w u low (later .mode)) in
-        let count = subst (λ (i : CopyAt). CountsIn s message (v .taker .at) (st .names) (st .end) m i (v .taker .mark) n out r) same c in
+        let count = subst (λ (i : CopyAt). CountsIn s message (v .taker .at) (st .names) m i (v .taker .mark) n out r) same c in
         count .exact (p .thread) x pre post w before after (u .taker) there i few g refl low later (butOf mode (u .sender)) j
         (ap (λ (w : step.Step). w .taker .mark) f);
   }

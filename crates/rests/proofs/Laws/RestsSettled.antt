@@ -11,6 +11,7 @@ use Rattle.meaning.specs.Steps.State.{Bound, _▸_, names, State}
 use Rattle.meaning.specs.Judging.Limits.{overSettling}
 use Rattle.meaning.proofs.Every.{every-split}
 use Rattle.nodes.specs.Buffer.{Within}
+use Rattle.nodes.proofs.Laws.Buffer.{unchanged}
 use Rattle.states.specs.declared.state.State as code
 use Rattle.walks.proofs.Laws.Course.{names-fit}
 use Rattle.positions.specs.Located.{Acting, prefixed}
@@ -20,7 +21,7 @@ use Rattle.moves.specs.Spot.{Spot, offersOf}
 use Rattle.moves.specs.Moves.{Move, alone, inside, between}
 use Rattle.moves.specs.Outcome.{boundAfter, lastOf, sentBy, outcome}
 use Rattle.forms.specs.Visit.{Labelled}
-use Rattle.ways.specs.Reach.{countedOf, countOf}
+use Rattle.walks.specs.Count.{countedOf, countOf}
 use Rattle.moves.specs.CopyOffers.{jointWith}
 use Rattle.moves.specs.Step.{actor, stepOf}
 use Rattle.moves.specs.Held.{Held}
@@ -30,8 +31,8 @@ use Rattle.moves.specs.declared.step.Step as step
 use Rattle.moves.specs.declared.step.Actor.{Actor}
 use Rattle.moves.specs.declared.step.Label.{Label}
 use Rattle.moves.specs.declared.step.Label.the-variants.{Output, Input, Silent}
-use Rattle.ways.specs.declared.count.Counted.{Counted}
-use Rattle.ways.specs.declared.count.Counted.the-variants as counted
+use Rattle.walks.specs.declared.count.Counted.{Counted}
+use Rattle.walks.specs.declared.count.Counted.the-variants as counted
 use Rattle.rests.specs.declared.names.Rests.{Rests}
 use Rattle.rests.specs.declared.names.Rests.the-variants as rests
 use Rattle.moves.proofs.Laws.MovesSpots as spots
@@ -73,7 +74,7 @@ bound-carried x p a = of (a .prefix)
     of (input C) = refl
 
 -- Who acts in a step of a single thread.
-sender-alone : (start : ℕ) (p : Spot) (a : Acting) → stepOf start (alone p a) .label ≡ Output
+pub sender-alone : (start : ℕ) (p : Spot) (a : Acting) → stepOf start (alone p a) .label ≡ Output
     → stepOf start (alone p a) .sender ≡ actor start p a
 unfolding stepOf
 sender-alone start p a = of (a .prefix)
@@ -83,7 +84,7 @@ sender-alone start p a = of (a .prefix)
     of (output C M) e = refl
     of (input C) e = absurd (let z : _≡_ {A = ℕ} 0 1 = cc in omega arith)
 
-taker-alone : (start : ℕ) (p : Spot) (a : Acting) → stepOf start (alone p a) .label ≡ Input
+pub taker-alone : (start : ℕ) (p : Spot) (a : Acting) → stepOf start (alone p a) .label ≡ Input
     → stepOf start (alone p a) .taker ≡ actor start p a
 unfolding stepOf
 taker-alone start p a = of (a .prefix)
@@ -93,7 +94,7 @@ taker-alone start p a = of (a .prefix)
     of (output C M) e = absurd (let z : _≡_ {A = ℕ} 0 1 = cc in omega arith)
     of (input C) e = refl
 
-not-silent : (start : ℕ) (p : Spot) (a : Acting) → stepOf start (alone p a) .label ≡ Silent → ⊥
+pub not-silent : (start : ℕ) (p : Spot) (a : Acting) → stepOf start (alone p a) .label ≡ Silent → ⊥
 unfolding stepOf
 not-silent start p a = of (a .prefix)
   where
@@ -102,7 +103,7 @@ not-silent start p a = of (a .prefix)
     of (input C) e = let z : _≡_ {A = ℕ} 0 1 = cc in omega arith
 
 -- The threads and the offers of a step that is one of the state.
-step-stood : {s out message : List ℕ} {st : code.State} {S : State} {h : Held s out st S} {v : step.Step} {x : Message} (w : Move)
+pub step-stood : {s out message : List ℕ} {st : code.State} {S : State} {h : Held s out st S} {v : step.Step} {x : Message} (w : Move)
     → Moving s out st S h v x w message → Stood (st .names) (h .at .placed) w
 step-stood {st = st} {h = h} {v = v} w mv =
     subst (λ (k : ℕ). Stood k (h .at .placed) w) (sym (h .at .names))
@@ -118,8 +119,8 @@ record Sent (k : ℕ) (u : Pair) (c : Counted) : Type 0 where
 -- And that of the taker after it, wherever the walks for the sender have written.
 record Both (s message m out : List ℕ) (st : code.State) (v : step.Step) (u : Pair) (c : Counted) : Type 0 where
   sent : Sent (st .names) u c
-  taken : {m₁ out₁ : List ℕ} {low high high₁ last : ℕ} {d : Counted} → Within low high m m₁ → Within (st .end) high₁ out out₁
-      → CountsTaker s st v last message m₁ out₁ d → last ≤ 28664 → d ≡ countOf (u .taker .rest) (u .taker .bound ▸ sentBy u) last
+  taken : {m₁ : List ℕ} {low high last : ℕ} {d : Counted} → Within low high m m₁ → CountsTaker s st v last message m₁ out d → last ≤ 28664
+      → d ≡ countOf (u .taker .rest) (u .taker .bound ▸ sentBy u) last
 
 module _ {s out m message : List ℕ} {st : code.State} {S : State} (h : Held s out st S) (l : Leading s st S m out) (x : Message) where
   -- A step of a single thread.
@@ -169,8 +170,8 @@ module _ {s out m message : List ℕ} {st : code.State} {S : State} (h : Held s 
       (ap (λ (w : step.Step). w .taker .next) e) near (sentBy u) i count in
       record {
         sent = sent;
-        taken = λ {last = last} a b taking small.
-            taking .between p q u (sentBy u) (sh .taker .before) (sh .taker .after) (thread-kept (q .thread) b a t) i (sent .later)
+        taken = λ {last = last} a taking small.
+            taking .between p q u (sentBy u) (sh .taker .before) (sh .taker .after) (thread-kept (q .thread) (unchanged {high = 0}) a t) i (sent .later)
             (sent .next) small (sh .taker .listed) e
             ∙ ap (λ (ρ : Bound). countOf (u .taker .rest) ρ last) (sh .takes .bound (sentBy u));
       }
@@ -189,9 +190,9 @@ module _ {s out m message : List ℕ} {st : code.State} {S : State} (h : Held s 
       e ∙ ap (λ (k : Joint). stepOf (st .start) (inside p k)) (jo .same) in
       record {
         sent = sent;
-        taken = λ {last = last} a b taking small.
+        taken = λ {last = last} a taking small.
             taking .inside p (jo .mode) (jo .copy) u (sentBy u) (jo .listed .before) (jo .listed .after) (jo .taker .before) (jo .taker .after)
-            (thread-kept (p .thread) b a t) i (jo .listed .listed) (jo .low)
+            (thread-kept (p .thread) (unchanged {high = 0}) a t) i (jo .listed .listed) (jo .low)
             (record { mode = jo .high; after = λ o. jo .later; small = sent .next }) small (jo .taker .listed) f
             ∙ ap (λ (ρ : Bound). countOf (u .taker .rest) ρ last) (jo .takes .bound (sentBy u));
       }
@@ -209,14 +210,14 @@ module _ {s message m out : List ℕ} {st : code.State} {v : step.Step} {c : Cou
   both-over e u b =
       over-first (overSettling (u .sender .rest) (u .sender .bound) (u .taker .next)) _ (lastOf u) _ (lastOf u) (sym (b .sent .counts) ∙ e)
 
-  both-names : {m₁ out₁ : List ℕ} {low high high₁ last : ℕ} {d : Counted} → c ≡ counted.Names last → Within low high m m₁
-      → Within (st .end) high₁ out out₁ → CountsTaker s st v last message m₁ out₁ d → (u : Pair) → Both s message m out st v u c
+  both-names : {m₁ : List ℕ} {low high last : ℕ} {d : Counted} → c ≡ counted.Names last → Within low high m m₁
+      → CountsTaker s st v last message m₁ out d → (u : Pair) → Both s message m out st v u c
       → thenOf last d ≡ bothOf u
-  both-names {last = last} e a w taking u b =
+  both-names {last = last} e a taking u b =
       let large = overSettling (u .sender .rest) (u .sender .bound) (u .taker .next) in
       let f : countedOf large (lastOf u) ≡ counted.Names last = sym (b .sent .counts) ∙ e in
       let small : last ≤ 28664 = omega (arith, last-counted large (lastOf u) last f, b .sent .small) in
-      ap (thenOf last) (b .taken a w taking small) ∙ then-both large (lastOf u) last (u .taker .rest) (u .taker .bound ▸ sentBy u) f
+      ap (thenOf last) (b .taken a taking small) ∙ then-both large (lastOf u) last (u .taker .rest) (u .taker .bound ▸ sentBy u) f
 
   -- Whatever silent step it is.
   both-settled : {r : Rests} → CountsActor s st (v .sender) (st .names) (v .taker .next) message m out c
@@ -237,11 +238,10 @@ module _ {s message m out : List ℕ} {st : code.State} {v : step.Step} {c : Cou
       → SettlesSilent s st v message m out rests.OverLimit
   silent-over count e = both-settled count (both-over e)
 
-  pub silent-both : {m₁ out₁ : List ℕ} {low high high₁ last : ℕ} {d : Counted} {r : Rests}
+  pub silent-both : {m₁ : List ℕ} {low high last : ℕ} {d : Counted} {r : Rests}
       → CountsActor s st (v .sender) (st .names) (v .taker .next) message m out c → c ≡ counted.Names last → Within low high m m₁
-      → Within (st .end) high₁ out out₁ → CountsTaker s st v last message m₁ out₁ d → r ≡ thenOf last d
-      → SettlesSilent s st v message m out r
-  silent-both count e a w taking f = both-settled count (λ u b. f ∙ both-names e a w taking u b)
+      → CountsTaker s st v last message m₁ out d → r ≡ thenOf last d → SettlesSilent s st v message m out r
+  silent-both count e a taking f = both-settled count (λ u b. f ∙ both-names e a taking u b)
 
   -- A step of one thread, by which of the two acts with its label.
   settles-alone : {r : Rests} (label : Label) (who : step.Step → Actor) → ¬ (Silent ≡ label)

@@ -44,7 +44,7 @@ thread-at {s} {out} {m} {st} {S} h l p stands =
     })
 
 -- A process that stands in a model has no more `new` nodes than the model has bytes; so has that of a thread.
-pub few-news : {s : List ℕ} {at left scope next : ℕ} (P : Process) → ProcessAt s at left scope P next → length s ≤ 12288 → news P ≤ 4096
+pub few-news : {s : List ℕ} {at left scope next : ℕ} (P : Process) → ProcessAt s at left scope P next → length s ≤ 36864 → news P ≤ 4096
 few-news P p l = omega (arith, news-short P, p .stands .size, p .inside)
 
 pub later-few : {s out m : List ℕ} {at k to : ℕ} (t : Placed) → ThreadAt s out m at k to t → laterNews (processOf (t .thread)) ≤ 4096

@@ -17,7 +17,7 @@ use Rattle.states.specs.declared.progress.Progress.{Progress}
 use Rattle.states.proofs.Laws.Process.{process-kind}
 
 -- A thread whose process stands at a position of a model can be written.
-pub stands-there : {s : List ℕ} {at left next : ℕ} (t : Thread) → length s ≤ 12288 → left ≤ 64
+pub stands-there : {s : List ℕ} {at left next : ℕ} (t : Thread) → length s ≤ 36864 → left ≤ 64
     → ProcessAt s at left (length (boundOf t)) (processOf t) next → Every Normal (boundOf t)
     → Standing s (record { place = at; thread = t })
 stands-there {next = next} t h d p n =

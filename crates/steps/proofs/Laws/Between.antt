@@ -2,7 +2,7 @@
 use Prim.Native.Nat.{ℕ, _+_, _≤_, _<_}
 use native.Mathlib.Omega.{arith}
 use native.Mathlib.Nat.{le-refl}
-use mathlib.Core.Path.{_≡_, refl, sym, _∙_, subst}
+use mathlib.Core.Path.{_≡_, refl, sym, _∙_, ap, subst}
 use mathlib.Core.Bool.{true, false}
 use mathlib.Core.List.{List, [], _∷_, _++_, map}
 use lib.Dec.{ltb}
@@ -11,7 +11,6 @@ use borrow.Author.Tests.{ltb-true, lt-ltb}
 use Rattle.meaning.specs.Messages.Term.{leaf, public}
 use Rattle.meaning.specs.Steps.State.{worked}
 use Rattle.meaning.specs.Places.{Every}
-use Rattle.meaning.specs.Bytes.Standing.{Stands}
 use Rattle.meaning.proofs.Every.{every-map}
 use Rattle.nodes.specs.Encoding.{encodeMessage}
 use Rattle.states.specs.Record.{Placed, encodeRecords}
@@ -20,10 +19,12 @@ use Rattle.positions.proofs.Laws.Everywhere.{every-first}
 use Rattle.moves.specs.Spot.{spotsFrom, recordAt, offersOf}
 use Rattle.moves.specs.Threads.{Threads}
 use Rattle.forms.specs.Visit.{Labelled}
-use Rattle.offers.specs.Seek.{Sight, Sees, ShowsSight, Seeks}
+use Rattle.offers.specs.Seek.{Sight, ShowsSight, Seeks}
 use Rattle.moves.specs.CopyOffers.{outputs, inputs, channelOf}
 use Rattle.moves.specs.CopyMoves.{Roomy}
-use Rattle.moves.specs.Step.{Shown, stepOf, runOf}
+use Rattle.moves.specs.Step.{actor, stepOf}
+use Rattle.moves.specs.declared.step.Actor.{Actor}
+use Rattle.steps.specs.Kept.{Kept, Answered}
 use Rattle.steps.specs.Between.{Party, partiesFrom, sendersFrom, offeredTo, meetingOf, takersFrom, sightOf, Ahead, Follows, Sends, Takes}
 use Rattle.offers.specs.declared.seek.Sighting.{Sighting}
 use Rattle.moves.specs.declared.step.Next.{Next}
@@ -88,7 +89,7 @@ pub record Known (start k to long : ℕ) (ps : List Placed) (w : Party) : Type 0
   pub sending : Sending k long (w .offer)
 
 pub sender-known : {s out : List ℕ} {start k to : ℕ} (x : ℕ) (ps ls ts : List Placed) {w : Party} {others : List Party}
-    → Threads s out start k ps to → ps ≡ ls ++ ts → length s ≤ 12288 → k ≤ 128 → sendersFrom k x (spotsFrom ls ts) ≡ w ∷ others
+    → Threads s out start k ps to → ps ≡ ls ++ ts → length s ≤ 36864 → k ≤ 128 → sendersFrom k x (spotsFrom ls ts) ≡ w ∷ others
     → Known start k to (length s) ps w
 unfolding sendersFrom
 sender-known {s} {out} {start} {k} {to} x ps ls ts {w} {others} h split short few e =
@@ -103,73 +104,66 @@ sender-known {s} {out} {start} {k} {to} x ps ls ts {w} {others} h split short fe
     (every-first (subst (λ us. Every (Known start k to (length s) (ls ++ ts)) us) e all))
 
 -- The answer where a taker is found.
-abbrev found : (at mark next at′ mark′ next′ size : ℕ) → Next
-found at mark next at′ mark′ next′ size = Found (record {
-  label = Silent;
-  mode = 0;
-  copy = 0;
-  sender = record { at = at; mark = mark; next = next };
-  taker = record { at = at′; mark = mark′; next = next′ };
-  size = size;
-})
+abbrev found : (sender taker : Actor) → (size : ℕ) → Next
+found sender taker size = Found (record { label = Silent; mode = 0; copy = 0; sender = sender; taker = taker; size = size })
 
 -- The takers of a sender.
 abbrev takersOf : (y : ℕ) → Party → List Placed → List Placed → List Party
 takersOf y w ls ts = partiesFrom (inputs y 0) (channelOf (w .offer)) (offeredTo w) (spotsFrom ls ts)
 
 -- Where none is seen, there is none.
-none-shown : (start : ℕ) (after : List ℕ) (r : Sighting) (w : Party) (us : List Party) (said : List ℕ) → ShowsSight after r (sightOf start us)
-    → r .done .mark ≡ 0 → Shown start said None (map (meetingOf w) us)
-none-shown start after r w [] said g e = refl
-none-shown start after r w (u ∷ us) said g e = absurd (omega (arith, g .mark))
+none-shown : (start : ℕ) (after : List ℕ) (r : Sighting) (w : Party) (us : List Party) (on said : List ℕ) → ShowsSight after r (sightOf start us)
+    → r .done .mark ≡ 0 → Answered start on said None (map (meetingOf w) us)
+none-shown start after r w [] on said g e = refl
+none-shown start after r w (u ∷ us) on said g e = absurd (omega (arith, g .mark))
 
 -- What is seen first among the takers.
-module _ {s label : List ℕ} {to : ℕ} {m : List ℕ} (now : Sighting) {taker y : ℕ} {out : List ℕ} {r : Sighting} {after : List ℕ}
-    (v : Seeks s label taker to m (inputs y 0) (now .at) (now .done .names) out r after) where
+module _ {s label : List ℕ} {to : ℕ} {m : List ℕ} (now : Actor) {taker y : ℕ} {out : List ℕ} {r : Sighting} {after : List ℕ}
+    (v : Seeks s label taker to m (inputs y 0) (now .at) (now .next) out r after) where
   taker-sought : (start k : ℕ) (ps ls ts : List Placed) (w : Party) (message : List ℕ) → Threads s out start k ps to
       → Roomy s out m message k to → ps ≡ ls ++ ts → taker ≡ start + length (encodeRecords ls) → Known start k to (length s) ps w
-      → Sees out now (recordAt start (w .spot)) (w .offer) → Labelled label (channelOf (w .offer))
+      → now ≡ actor start (w .spot) (w .offer) → Labelled label (channelOf (w .offer))
       → ShowsSight after r (sightOf start (takersOf y w ls ts))
-  taker-sought start k ps ls ts w message h room split here known sees labelled =
+  taker-sought start k ps ls ts w message h room split here known acts labelled =
       let there : Threads s out start k (ls ++ ts) to = subst (λ us. Threads s out start k us to) split h in
       let behind = threads-from ls ts there in
       let whole-too : ls ++ ts ≡ whole (w .spot) = sym split ∙ known .parts in
       let sending = known .sending in
+      let at : now .at ≡ recordAt start (w .spot) = ap (λ u. u .at) acts in
+      let next : now .next ≡ w .offer .next = ap (λ u. u .next) acts in
       let seen = v .exact ts (channelOf (w .offer)) (subst (λ (n : ℕ). Threads s out n k ts to) (sym here) behind)
-      (rw (sees .next) (sending .later)) refl labelled (room .short) (room .wide) (room .room) (rw (sees .next) (sending .small)) in
+      (rw next (sending .later)) refl labelled (room .short) (room .wide) (room .room) (rw next (sending .small)) in
       let same-sight =
       first-among (inputs 0 0) (channelOf (w .offer)) start (w .offer .next) (recordAt start (w .spot)) (offeredTo w) y ls ts taker here
       (every-map (λ q g. sender-skipped (w .offer .next) (w .spot) q whole-too g) (spots-seated ls ts behind)) in
-      subst (λ (i : Sight). ShowsSight after r i) same-sight (rw (sees .next, sees .at) at seen)
+      subst (λ (i : Sight). ShowsSight after r i) same-sight (rw (next, at) at seen)
 
   -- The first one is met.
-  one-shown : (start size : ℕ) (w : Party) (us : List Party) (said : List ℕ) → ShowsSight after r (sightOf start us) → (r .done .mark ≡ 0 → ⊥)
-      → Sees out now (recordAt start (w .spot)) (w .offer)
-      → Stands said 0 (encodeMessage (worked (w .offer .bound) (messageOf (w .offer .prefix)))) size
-      → Shown start said (found (now .at) (now .done .mark) (now .done .names) (r .at) (r .done .mark) (r .done .names) size) (map (meetingOf w) us)
-  unfolding stepOf runOf
-  one-shown start size w [] said g n sees stands = absurd (n g)
-  one-shown start size w (u ∷ us) said g n sees stands =
-      let long : length (encodeMessage (worked (w .offer .bound) (messageOf (w .offer .prefix)))) ≡ size = omega (arith, stands .size) in
-      (rw (sees .at, sees .mark, sees .next, g .at, g .mark, g .next, ← long), rw long stands)
+  one-shown : (start size : ℕ) (w : Party) (us : List Party) (on said : List ℕ) → ShowsSight after r (sightOf start us) → (r .done .mark ≡ 0 → ⊥)
+      → now ≡ actor start (w .spot) (w .offer) → size ≡ length (encodeMessage (worked (w .offer .bound) (messageOf (w .offer .prefix))))
+      → ((u : Party) → Kept on said (meetingOf w u))
+      → Answered start on said (found now (record { at = r .at; mark = r .done .mark; next = r .done .names }) size) (map (meetingOf w) us)
+  unfolding stepOf
+  one-shown start size w [] on said g n acts long kept = absurd (n g)
+  one-shown start size w (u ∷ us) on said g n acts long kept = (rw (acts, g .at, g .mark, g .next, long), kept u)
 
   pub takes-none : {size : ℕ} → r .done .mark ≡ 0 → Takes s label to m now taker y out size None
   unfolding takersFrom
   takes-none e = record {
-    exact = λ start k x ps ls ts ls′ ts′ w others said message h room split split′ here senders sees labelled stands.
+    exact = λ start k x ps ls ts ls′ ts′ w others on said message h room split split′ here senders acts labelled long kept.
         let known = sender-known x ps ls ts h split (room .short) (room .few) senders in
-        none-shown start after r w (takersOf y w ls′ ts′) said (taker-sought start k ps ls′ ts′ w message h room split′ here known sees labelled) e;
+        none-shown start after r w (takersOf y w ls′ ts′) on said
+        (taker-sought start k ps ls′ ts′ w message h room split′ here known acts labelled) e;
   }
 
   pub takes-one : {size : ℕ} → (r .done .mark ≡ 0 → ⊥)
-      → Takes s label to m now taker y out size
-      (found (now .at) (now .done .mark) (now .done .names) (r .at) (r .done .mark) (r .done .names) size)
+      → Takes s label to m now taker y out size (found now (record { at = r .at; mark = r .done .mark; next = r .done .names }) size)
   unfolding takersFrom
   takes-one {size} n = record {
-    exact = λ start k x ps ls ts ls′ ts′ w others said message h room split split′ here senders sees labelled stands.
+    exact = λ start k x ps ls ts ls′ ts′ w others on said message h room split split′ here senders acts labelled long kept.
         let known = sender-known x ps ls ts h split (room .short) (room .few) senders in
-        let seen = taker-sought start k ps ls′ ts′ w message h room split′ here known sees labelled in
-        one-shown start size w (takersOf y w ls′ ts′) said seen n sees stands;
+        let seen = taker-sought start k ps ls′ ts′ w message h room split′ here known acts labelled in
+        one-shown start size w (takersOf y w ls′ ts′) on said seen n acts long kept;
   }
 
 pub ruleset takings = (takes-none, takes-one)

@@ -7,7 +7,6 @@ use mathlib.Core.Bool.{Bool, true, false, not}
 use mathlib.Core.List.{List, [], _∷_, _++_, map, map-map, flatMap}
 use borrow.Author.Tests.{le-ltb}
 use Rattle.meaning.specs.Messages.Term.{Term, leaf, public, Message}
-use Rattle.meaning.specs.Messages.Normal as messages
 use Rattle.meaning.specs.Bytes.Process.{Prefix, output, input}
 use Rattle.meaning.specs.Steps.Offer.{Split}
 use Rattle.states.specs.Record.{Placed}
@@ -23,27 +22,21 @@ use Rattle.moves.specs.Spot.{Spot, spots, offersOf, filter}
 use Rattle.moves.specs.Moves.{Move, alone, inside, between, others, takers, meetings}
 use Rattle.moves.specs.Outcome.{same}
 use Rattle.moves.specs.CopyOffers.{outputs, inputs, channelOf}
-use Rattle.moves.specs.CopyMoves.{laterSpots}
-use Rattle.steps.specs.Between.{Party, partiesFrom, sendersFrom, offeredTo, meetingOf, takersFrom, meetingsFrom, betweenFrom}
-use Rattle.steps.specs.Between.{BetweenAll, BetweenResumed}
+use Rattle.steps.specs.Between.{Party, partiesFrom, sendersFrom, offeredTo, meetingOf, takersFrom, betweenFrom}
+use Rattle.steps.specs.Between.{Resumed, BetweenAll, BetweenResumed}
 use Rattle.moves.proofs.Laws.MovesLists.{flatMap-flatMap, flatMap-none, flatMap-filter, flatMap-kept}
 use Rattle.moves.proofs.Laws.CopyMoves.{matching-output, matching-input}
 use Rattle.moves.proofs.Laws.SplitLists.{split-flatMap, split-map, since}
 use Rattle.steps.proofs.Laws.BetweenLists.{party, parties-resumed}
 use Rattle.steps.proofs.Laws.BetweenOnward.{offers-increase, senders-resumed}
 
--- From the beginning on, the parties are those of one thread after the other; and so are the meetings of senders.
+-- From the beginning on, the parties are those of one thread after the other.
 parties-all-threads : (q : Quest) (x : Message) (f : Spot → List Acting) (ps : List Spot)
     → partiesFrom (since 0 q) x f ps ≡ flatMap (λ p. map (party p) (filter (wanted (since 0 q) x) (f p))) ps
 unfolding partiesFrom flatMap
 parties-all-threads q x f [] = refl
 parties-all-threads q x f (p ∷ ps) =
     ap (λ r. map (party p) (filter (wanted (since 0 q) x) (f p)) ++ r) (parties-all-threads q x f ps)
-
-meetings-all : (qs : List Spot) (ws : List Party) → meetingsFrom qs qs 0 ws ≡ flatMap (λ w. takersFrom w 0 qs) ws
-unfolding meetingsFrom flatMap
-meetings-all qs [] = refl
-meetings-all qs (w ∷ ws) = ap (λ r. takersFrom w 0 qs ++ r) (meetings-all qs ws)
 
 -- The takers of an output among the other threads.
 module _ (p : Spot) (a : Acting) (C M : Term) where
@@ -93,7 +86,7 @@ takers-wanted p qs a = of (a .prefix)
     of (output C M) = takers-met p a C M qs ∙ sym (rw (le-ltb (a .place) 0 (omega arith)))
     of (input C) = none-met p a C (others p qs)
 
-meetings-met : (k : ℕ) (qs ps : List Spot) → flatMap (meetings k qs) ps ≡ betweenFrom qs k ps 0 qs 0
+meetings-met : (k : ℕ) (qs ps : List Spot) → flatMap (meetings k qs) ps ≡ betweenFrom qs k ps 0
 unfolding meetings betweenFrom sendersFrom
 meetings-met k qs ps =
     let W = wanted (outputs 0) (leaf (public 0)) in
@@ -101,19 +94,16 @@ meetings-met k qs ps =
     let g : Party → List Move = λ w. takersFrom w 0 qs in
     flatMap-every (everywhere (λ p.
     sym (flatMap-kept W (λ a. g (party p a)) _ (takers-wanted p qs) (f p)) ∙ sym (flatMap-map g (party p) (filter W (f p)))) ps)
-    ∙ sym (meetings-all qs (partiesFrom (outputs 0) (leaf (public 0)) f ps)
-    ∙ ap (flatMap g) (parties-all-threads (outputs 0) (leaf (public 0)) f ps) ∙ flatMap-flatMap g _ ps)
+    ∙ sym (ap (flatMap g) (parties-all-threads (outputs 0) (leaf (public 0)) f ps) ∙ flatMap-flatMap g _ ps)
 
 pub betweenAll : BetweenAll
 betweenAll k ps = meetings-met k (spots ps) (spots ps)
 
 -- What the theorem says of a move.
-abbrev Resumed : (k : ℕ) → List Placed → (after : List Move) → Move → Type 0
-Resumed k ps after (alone p a) = Unit {0}
-Resumed k ps after (inside p w) = Unit {0}
-Resumed k ps after (between p q v) =
-    (ps ≡ p .before ++ (p .thread ∷ p .behind)) × (ps ≡ q .before ++ (q .thread ∷ q .behind))
-    × (betweenFrom (spots ps) k (p ∷ laterSpots p) (v .sender .place) (q ∷ laterSpots q) (v .taker .place + 1) ≡ after)
+abbrev ResumedAt : (k : ℕ) → List Placed → (after : List Move) → Move → Type 0
+ResumedAt k ps after (alone p a) = Unit {0}
+ResumedAt k ps after (inside p w) = Unit {0}
+ResumedAt k ps after (between p q v) = Resumed k ps after p q v
 
 offered-increase : (w : Party) (q : Spot) → Increasing 0 (offeredTo w q)
 offered-increase w q = of (same (w .spot) q)
@@ -123,12 +113,12 @@ offered-increase w q = of (same (w .spot) q)
     of false = offers-increase (w .offer .next) q
 
 pub betweenResumed : BetweenResumed
-unfolding betweenFrom meetingsFrom takersFrom sendersFrom
+unfolding betweenFrom takersFrom sendersFrom
 betweenResumed k ps before after p q v e =
-    let m = split-flatMap (λ w. takersFrom w 0 qs) senders (split-at before (sym (betweenAll k ps ∙ meetings-all qs senders) ∙ e)) in
+    let m = split-flatMap (λ w. takersFrom w 0 qs) senders (split-at before (sym (betweenAll k ps) ∙ e)) in
     let (front, u, back, s, is, left) =
     split-map (meetingOf (m .at)) (partiesFrom (inputs 0 0) (channelOf (m .at .offer)) (offeredTo (m .at)) qs) (m .inner) in
-    subst (Resumed k ps after) (sym is) (found (m .at) u (m .outer) s left (m .follows))
+    subst (ResumedAt k ps after) (sym is) (found (m .at) u (m .outer) s left (m .follows))
   where
     qs : List Spot
     qs = spots ps
@@ -138,13 +128,15 @@ betweenResumed k ps before after p q v e =
 
     found : (w u : Party) {pre post front back : List Party} {high : List Move} → Split senders pre w post
         → Split (partiesFrom (inputs 0 0) (channelOf (w .offer)) (offeredTo w) qs) front u back → high ≡ map (meetingOf w) back
-        → after ≡ high ++ flatMap (λ w. takersFrom w 0 qs) post → Resumed k ps after (meetingOf w u)
+        → after ≡ high ++ flatMap (λ w. takersFrom w 0 qs) post → ResumedAt k ps after (meetingOf w u)
     found w u {post = post} outer inner left follows =
         let sent = senders-resumed k 0 [] ps outer in
-        let took = parties-resumed (inputs 0 0) (channelOf (w .offer)) (offeredTo w) (offered-increase w) 0 [] ps inner in (
-          sent .parts,
-          took .parts,
-          ap (meetingsFrom qs (u .spot ∷ laterSpots (u .spot)) (u .offer .place + 1)) (sent .again)
-              ∙ ap (λ r. map (meetingOf w) r ++ meetingsFrom qs qs 0 post) (took .on)
-              ∙ ap₂ _++_ (sym left) (meetings-all qs post) ∙ sym follows,
-        )
+        let took = parties-resumed (inputs 0 0) (channelOf (w .offer)) (offeredTo w) (offered-increase w) 0 [] ps inner in
+        record {
+          sending = sent .parts;
+          taking = took .parts;
+          others = post;
+          again = sent .again;
+          left =
+              ap₂ _++_ (ap (map (meetingOf w)) (took .on) ∙ sym left) (ap (flatMap (λ w. takersFrom w 0 qs)) (sent .on)) ∙ sym follows;
+        }

@@ -32,7 +32,7 @@ pub record Sending (k long : ℕ) (a : Acting) : Type 0 where
   pub small : a .next ≤ 28664
 
 -- The process of a thread stands in the model, so it has few `new` nodes, and whatever acts in it stands there too.
-pub sending-all : {s : List ℕ} {k : ℕ} (n : ℕ) (t : Placed) → Standing s t → Judged k t → length s ≤ 12288 → k ≤ 128
+pub sending-all : {s : List ℕ} {k : ℕ} (n : ℕ) (t : Placed) → Standing s t → Judged k t → length s ≤ 36864 → k ≤ 128
     → Every (λ a. wanted (outputs n) (leaf (public 0)) a ≡ true → Sending k (length s) a) (offersOf t k)
 sending-all {s} {k} n t h j l m =
     let P = processOf (t .thread) in

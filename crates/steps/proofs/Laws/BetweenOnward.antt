@@ -3,7 +3,7 @@ use Prim.Native.Nat.{ℕ, _+_, _-_, _*_, _≤_, _<_}
 use native.Mathlib.Omega.{arith}
 use mathlib.Core.Path.{_≡_, refl, sym, _∙_, ap, subst}
 use mathlib.Core.Bool.{Bool, true, false}
-use mathlib.Core.List.{List, [], _∷_, _++_, append-nil}
+use mathlib.Core.List.{List, [], _∷_, _++_, flatMap}
 use lib.Dec.{eqb}
 use borrow.Author.Tests.{eqb-true, eqb-false}
 use lib.ListN.{length, take, drop}
@@ -21,6 +21,8 @@ use Rattle.positions.specs.Joint.{messageOf}
 use Rattle.positions.proofs.Laws.Increasing.{Increasing, increasing-lower, acting-increasing}
 use Rattle.positions.proofs.Laws.Everywhere.{every-first}
 use Rattle.positions.proofs.Laws.Copies.{split-at}
+use Rattle.positions.specs.Located.{Acting}
+use Rattle.moves.specs.Moves.{Move}
 use Rattle.moves.specs.Spot.{Spot, spots, spotsFrom, recordAt, offersOf}
 use Rattle.moves.specs.Threads.{Threads}
 use Rattle.forms.specs.Visit.{Labelled}
@@ -28,8 +30,8 @@ use Rattle.offers.specs.Seek.{Sees, ShowsSight}
 use Rattle.offers.specs.Hand.{Hands}
 use Rattle.moves.specs.CopyOffers.{outputs, channelOf}
 use Rattle.moves.specs.CopyMoves.{laterSpots, Roomy}
-use Rattle.moves.specs.Step.{Shown}
-use Rattle.steps.specs.Between.{Party, sendersFrom, takersFrom, meetingsFrom, betweenFrom, sightOf, Ahead, Follows, Sends, Takes, Pairs}
+use Rattle.moves.specs.Step.{runOf}
+use Rattle.steps.specs.Between.{Party, sendersFrom, takersFrom, betweenFrom, sightOf, Ahead, Follows, Sends, Takes, Pairs}
 use Rattle.steps.specs.Between.{Onward, Betweens}
 use Rattle.offers.specs.declared.hand.Handed.{Handed}
 use Rattle.offers.specs.declared.seek.Sighting.{Sighting}
@@ -40,33 +42,36 @@ use Rattle.moves.proofs.Laws.Threads.{threads-kept, threads-from}
 use Rattle.steps.proofs.Laws.BetweenLists.{Resumes, parties-resumed}
 use Rattle.steps.proofs.Laws.BetweenSought.{Placing, parties-placed}
 use Rattle.steps.proofs.Laws.Between.{sender-known}
-use Rattle.pairs.proofs.Laws.Shown.{shown-more, shown-none}
+use Rattle.steps.specs.Kept.{channelRun, Answered}
+use Rattle.steps.proofs.Laws.Kept.{answered-more, answered-next}
+use Rattle.steps.proofs.Laws.BetweenOffers.{Sending}
+use Rattle.meetings.proofs.Laws.Joint.{still-roomy}
 
--- The array that the channel was copied to, whole again.
-pub still-fits : {n long : ℕ} (xs : List ℕ) → n ≤ long → length xs ≡ long → n ≤ length (xs ++ [])
-still-fits {n} {long} xs l e = rw (append-nil xs) (omega arith)
+-- The part of a slice that is the run of a sender's channel is a label.
+pub channel-label : {label : List ℕ} {k long : ℕ} (a : Acting) → Sending k long a → label ≡ encodeMessage (channelOf a)
+    → Labelled label (channelOf a)
+channel-label a sending e = record { same = e; small = rw e (sending .sent .channel); normal = sending .sent .normal }
 
-pub pairs : {s : List ℕ} {to : ℕ} {m : List ℕ} {now : Sighting} {taker y : ℕ} {out message said channel : List ℕ} {long : ℕ} {h : Handed}
-    {r : Next}
-    → Hands out (now .done .sent) h channel said → length channel ≡ long → long ≡ 510 → length said ≡ length message
-    → Takes s (take (h .channel - 0) (drop 0 (channel ++ []))) to m now taker y out (h .message) r
-    → Pairs s to m now taker y out message r said
-unfolding encodeMessages
-pairs {s} {to} {m} {now} {taker} {y} {out} {message} {said} {channel} {long} {h} {r} hands same full size v = record {
-  exact = λ start k x ps ls ts ls′ ts′ w others threads room split split′ here senders sees.
+pub pairs : {s : List ℕ} {start to : ℕ} {m : List ℕ} {now : Sighting} {out channel message on said : List ℕ} {h : Handed} {r : Next}
+    → Hands out (now .done .sent) h on said → length on ≡ length channel → length said ≡ length message
+    → Takes s (take (h .channel - 0) (drop 0 on)) to m (record { at = now .at; mark = now .done .mark; next = now .done .names }) start 0 out
+    (h .message) r
+    → Pairs s start to m now out channel message r on said
+unfolding encodeMessages encodeRecords channelRun runOf
+pairs {s} {start} {to} {m} {now} {out} {channel} {message} {on} {said} {h} {r} hands same size v = record {
+  exact = λ k x ps ls ts w others threads room long split senders sees.
       let a = w .offer in
-      let known = sender-known x ps ls ts threads split (room .short) (room .few) senders in
-      let sending = known .sending .sent in
+      let sending = sender-known x ps ls ts threads split (room .short) (room .few) senders .sending in
       let M = worked (a .bound) (messageOf (a .prefix)) in
       let messages : Stands out (now .done .sent) (encodeMessages (channelOf a ∷ M ∷ [])) (now .done .state .end) =
-      subst (λ xs. Stands out (now .done .sent) (encodeMessages xs) (now .done .state .end)) (sending .messages) (sees .messages) in
-      let (first, second) = hands .exact (channelOf a) M messages (omega (arith, sending .channel))
-      (omega (arith, sending .message, room .long)) in
-      let label : take (h .channel - 0) (drop 0 (channel ++ [])) ≡ encodeMessage (channelOf a) =
-      ap (λ xs. take (h .channel - 0) (drop 0 xs)) (append-nil channel) ∙ part first in
-      let labelled : Labelled (take (h .channel - 0) (drop 0 (channel ++ []))) (channelOf a) =
-      record { same = label; small = rw label (sending .channel); normal = sending .normal } in
-      v .exact start k x ps ls ts ls′ ts′ w others said message threads room split split′ here senders sees labelled second;
+      subst (λ xs. Stands out (now .done .sent) (encodeMessages xs) (now .done .state .end)) (sending .sent .messages) (sees .messages) in
+      let (first, second) = hands .exact (channelOf a) M messages (omega (arith, sending .sent .channel))
+      (omega (arith, sending .sent .message, room .long)) in
+      let sized : h .channel ≡ length (encodeMessage (channelOf a)) = omega (arith, first .size) in
+      let sized′ : h .message ≡ length (encodeMessage M) = omega (arith, second .size) in
+      v .exact start k x ps ls ts [] ps w others on said message threads room split refl (omega arith) senders
+      (rw (sees .at, sees .mark, sees .next)) (channel-label a sending (part first)) sized′
+      (λ u. record { on = rw sized at first; sent = rw sized′ at second });
 }
 
 -- The senders behind the first of senders.
@@ -80,47 +85,38 @@ unfolding sendersFrom
 senders-resumed k x ls ts s =
     parties-resumed (outputs 0) (leaf (public 0)) (λ p. offersOf (p .thread) k) (offers-increase k) x ls ts s
 
-module _ {s : List ℕ} {start k to : ℕ} {m : List ℕ} {now : Sighting} {taker y : ℕ} {out message : List ℕ} where
-  pub onward-found : {answer : Next} {step : code.Step} {said : List ℕ} → Pairs s to m now taker y out message answer said → answer ≡ Found step
-      → Onward s start k to m now taker y out message (Found step) said
-  unfolding meetingsFrom
-  onward-found {answer} {step} {said} v e = record {
-    exact = λ x ps ls ts ls′ ts′ w others threads room split split′ here senders sees.
-        shown-more start said step (takersFrom w y (spotsFrom ls′ ts′)) (meetingsFrom (spots ps) (spots ps) 0 others)
-        (subst (λ a. Shown start said a (takersFrom w y (spotsFrom ls′ ts′))) e
-        (v .exact start k x ps ls ts ls′ ts′ w others threads room split split′ here senders sees));
+module _ {s : List ℕ} {start k to : ℕ} {m : List ℕ} {now : Sighting} {out channel message : List ℕ} where
+  pub onward-found : {answer : Next} {step : code.Step} {on said : List ℕ} → Pairs s start to m now out channel message answer on said
+      → answer ≡ Found step → Onward s start k to m now out channel message (Found step) on said
+  unfolding flatMap
+  onward-found {answer} {step} {on} {said} v e = record {
+    exact = λ x ps ls ts w others threads room long split senders sees.
+        answered-more start on said step (takersFrom w 0 (spots ps)) (flatMap (λ v. takersFrom v 0 (spots ps)) others)
+        (subst (λ a. Answered start on said a (takersFrom w 0 (spots ps))) e (v .exact k x ps ls ts w others threads room long split senders sees));
   }
 
-  pub onward-none : {answer : Next} {said₁ said m₁ out₁ : List ℕ} {high : ℕ} {r : Next} → Pairs s to m now taker y out message answer said₁
-      → answer ≡ None → Within 0 high m m₁ → Within to (length out) out out₁ → length said₁ ≡ length message
-      → Betweens s start (now .at) k to m₁ (now .done .mark) start 0 out₁ said₁ r said → Onward s start k to m now taker y out message r said
-  unfolding meetingsFrom betweenFrom sendersFrom spotsFrom encodeRecords
-  onward-none {answer} {said₁} {said} {m₁} {out₁} {high} {r} v e wm wo long b = record {
-    exact = λ x ps ls ts ls′ ts′ w others threads room split split′ here senders sees.
+  pub onward-none : {answer : Next} {on₁ said₁ on said m₁ out₁ : List ℕ} {high : ℕ} {r : Next}
+      → Pairs s start to m now out channel message answer on₁ said₁ → answer ≡ None → Within 0 high m m₁ → Within to (length out) out out₁
+      → length on₁ ≡ length channel → length said₁ ≡ length message
+      → Betweens s start (now .at) k to m₁ (now .done .mark) out₁ on₁ said₁ r on said → Onward s start k to m now out channel message r on said
+  unfolding flatMap betweenFrom sendersFrom spotsFrom
+  onward-none {answer} {on₁} {said₁} {on} {said} {m₁} {out₁} {high} {r} v e wm wo same size b = record {
+    exact = λ x ps ls ts w others threads room long split senders sees.
         let p = w .spot in
-        let a = w .offer in
-        let none = shown-none start said₁ (takersFrom w y (spotsFrom ls′ ts′))
-        (subst (λ a. Shown start said₁ a (takersFrom w y (spotsFrom ls′ ts′))) e
-        (v .exact start k x ps ls ts ls′ ts′ w others threads room split split′ here senders sees)) in
+        let mine = takersFrom w 0 (spots ps) in
+        let theirs : List Party → List Move = flatMap (λ v. takersFrom v 0 (spots ps)) in
+        let none = subst (λ a. Answered start on₁ said₁ a mine) e (v .exact k x ps ls ts w others threads room long split senders sees) in
         let again = senders-resumed k x ls ts (split-at [] senders) in
-        let room₁ : Roomy s out₁ m₁ said₁ k to = record {
-          short = room .short;
-          wide = omega (arith, room .wide, wm .long);
-          room = omega (arith, room .room, wo .long);
-          few = room .few;
-          long = omega (arith, room .long);
-        } in
-        let rest = b .exact ps (p .before) (p .thread ∷ p .behind) [] ps (threads-kept ps wo (omega arith) threads) room₁
-        (split ∙ again .parts) (sees .at) refl (omega arith) in
+        let rest = b .exact ps (p .before) (p .thread ∷ p .behind) (threads-kept ps wo (omega arith) threads) (still-roomy wm wo size room)
+        (omega arith) (split ∙ again .parts) (sees .at) in
         let left : sendersFrom k (now .done .mark) (p ∷ laterSpots p) ≡ others =
         ap (λ n. sendersFrom k n (p ∷ laterSpots p)) (sees .mark) ∙ again .on in
-        subst (λ us. Shown start said r us) (sym (ap (λ us. us ++ meetingsFrom (spots ps) (spots ps) 0 others) none))
-        (subst (λ us. Shown start said r (meetingsFrom (spots ps) (spots ps) 0 us)) left rest);
+        answered-next start on₁ said₁ on said r mine (theirs others) none (subst (λ us. Answered start on said r (theirs us)) left rest);
   }
 
 -- The first sender follows where it was sought.
 sender-ahead : {s out : List ℕ} {start at k to : ℕ} (x : ℕ) (ps ls ts : List Placed) (w : Party) (others : List Party) (r : Sighting)
-    → Threads s out start k ps to → ps ≡ ls ++ ts → at ≡ start + length (encodeRecords ls) → length s ≤ 12288 → k ≤ 128
+    → Threads s out start k ps to → ps ≡ ls ++ ts → at ≡ start + length (encodeRecords ls) → length s ≤ 36864 → k ≤ 128
     → sendersFrom k x (spotsFrom ls ts) ≡ w ∷ others → {after : List ℕ} → Sees after r (recordAt start (w .spot)) (w .offer)
     → Ahead at x to (length s) (r .at) (r .done .mark)
 unfolding sendersFrom
@@ -144,50 +140,43 @@ module _ {s : List ℕ} {start at k to : ℕ} {m : List ℕ} {x : ℕ} {out mess
       let behind = threads-from ls ts (subst (λ us. Threads s out start k us to) split threads) in
       v .exact start ls ts (subst (λ (n : ℕ). Threads s out n k ts to) (sym here) behind) room here
 
-  pub between-none : {taker y : ℕ} → b ≡ false → Betweens s start at k to m x taker y out message None message
-  unfolding betweenFrom meetingsFrom
-  between-none {taker} {y} e = record {
-    exact = λ ps ls ts ls′ ts′ threads room split here split′ there.
-        of ps ls ts ls′ ts′ threads room split here (sendersFrom k x (spotsFrom ls ts)) refl (first-sender ps ls ts threads room split here);
+  pub between-none : {channel : List ℕ} → b ≡ false → Betweens s start at k to m x out channel message None channel message
+  unfolding betweenFrom flatMap
+  between-none {channel} e = record {
+    exact = λ ps ls ts threads room long split here.
+        of ps ls ts threads room split here (sendersFrom k x (spotsFrom ls ts)) refl (first-sender ps ls ts threads room split here);
   }
     where
-      of : (ps ls ts ls′ ts′ : List Placed) → Threads s out start k ps to → Roomy s out m message k to → ps ≡ ls ++ ts
+      of : (ps ls ts : List Placed) → Threads s out start k ps to → Roomy s out m message k to → ps ≡ ls ++ ts
           → at ≡ start + length (encodeRecords ls) → (us : List Party) → sendersFrom k x (spotsFrom ls ts) ≡ us
-          → ShowsSight out₁ r₁ (sightOf start us) → Shown start message None (meetingsFrom (spots ps) (spotsFrom ls′ ts′) y us)
-      of ps ls ts ls′ ts′ threads room split here [] g h = refl
-      of ps ls ts ls′ ts′ threads room split here (w ∷ others) g h =
+          → ShowsSight out₁ r₁ (sightOf start us) → Answered start channel message None (flatMap (λ w. takersFrom w 0 (spots ps)) us)
+      of ps ls ts threads room split here [] g h = refl
+      of ps ls ts threads room split here (w ∷ others) g h =
           absurd (let z : false ≡ true = sym e ∙ f .complete (sender-ahead x ps ls ts w others r₁ threads split here (room .short) (room .few) g h) in
           let o : _≡_ {A = ℕ} 0 1 = cc in omega arith)
 
-  pub between-onward : {taker y : ℕ} {m₁ said : List ℕ} {high : ℕ} {r : Next} → b ≡ true → Within 0 high m m₁ → Within to (length out) out out₁
-      → Onward s start k to m₁ r₁ taker y out₁ message r said → Betweens s start at k to m x taker y out message r said
+  pub between-onward : {m₁ channel on said : List ℕ} {high : ℕ} {r : Next} → b ≡ true → Within 0 high m m₁ → Within to (length out) out out₁
+      → Onward s start k to m₁ r₁ out₁ channel message r on said → Betweens s start at k to m x out channel message r on said
   unfolding betweenFrom
-  between-onward {taker} {y} {m₁} {said} {high} {r} e wm wo o = record {
-    exact = λ ps ls ts ls′ ts′ threads room split here split′ there.
-        of ps ls ts ls′ ts′ threads room split split′ there (sendersFrom k x (spotsFrom ls ts)) refl (first-sender ps ls ts threads room split here);
+  between-onward {m₁} {channel} {on} {said} {high} {r} e wm wo o = record {
+    exact = λ ps ls ts threads room long split here.
+        of ps ls ts threads room long split (sendersFrom k x (spotsFrom ls ts)) refl (first-sender ps ls ts threads room split here);
   }
     where
-      of : (ps ls ts ls′ ts′ : List Placed) → Threads s out start k ps to → Roomy s out m message k to → ps ≡ ls ++ ts
-          → ps ≡ ls′ ++ ts′ → taker ≡ start + length (encodeRecords ls′) → (us : List Party) → sendersFrom k x (spotsFrom ls ts) ≡ us
-          → ShowsSight out₁ r₁ (sightOf start us) → Shown start said r (meetingsFrom (spots ps) (spotsFrom ls′ ts′) y us)
-      of ps ls ts ls′ ts′ threads room split split′ there [] g h = absurd (omega (arith, f .sound e .some))
-      of ps ls ts ls′ ts′ threads room split split′ there (w ∷ others) g h =
-          let room₁ : Roomy s out₁ m₁ message k to = record {
-            short = room .short;
-            wide = omega (arith, room .wide, wm .long);
-            room = omega (arith, room .room, wo .long);
-            few = room .few;
-            long = room .long;
-          } in
-          o .exact x ps ls ts ls′ ts′ w others (threads-kept ps wo (omega arith) threads) room₁ split split′ there g h
+      of : (ps ls ts : List Placed) → Threads s out start k ps to → Roomy s out m message k to → 510 ≤ length channel → ps ≡ ls ++ ts
+          → (us : List Party) → sendersFrom k x (spotsFrom ls ts) ≡ us → ShowsSight out₁ r₁ (sightOf start us)
+          → Answered start on said r (flatMap (λ w. takersFrom w 0 (spots ps)) us)
+      of ps ls ts threads room long split [] g h = absurd (omega (arith, f .sound e .some))
+      of ps ls ts threads room long split (w ∷ others) g h =
+          o .exact x ps ls ts w others (threads-kept ps wo (omega arith) threads) (still-roomy wm wo refl room) long split g h
 
 pub ruleset betweens = (between-none, between-onward)
 
 -- The measure falls from a sender to the next one.
-pub ahead-falls : {at x to long place mark t : ℕ} {b : Bool} → Follows at x to long place mark b → b ≡ true → long ≤ 12288
-    → 2 * (13000 * (to - at) + (13000 - x)) ≡ t → 2 * (13000 * (to - place) + (13000 - mark)) + 1 < t
+pub ahead-falls : {at x to long place mark t : ℕ} {b : Bool} → Follows at x to long place mark b → b ≡ true → long ≤ 36864
+    → 2 * (37000 * (to - at) + (37000 - x)) ≡ t → 2 * (37000 * (to - place) + (37000 - mark)) + 1 < t
 ahead-falls {at} {x} {to} {long} {place} {mark} {t} f e l z = by-place (f .sound e) (eqb place at) refl
   where
-    by-place : Ahead at x to long place mark → (c : Bool) → eqb place at ≡ c → 2 * (13000 * (to - place) + (13000 - mark)) + 1 < t
+    by-place : Ahead at x to long place mark → (c : Bool) → eqb place at ≡ c → 2 * (37000 * (to - place) + (37000 - mark)) + 1 < t
     by-place a true c = let h = eqb-true place at c in omega (arith, a .within, a .below, a .after h)
     by-place a false c = let h = eqb-false place at c in omega (arith, a .some, a .within, a .below, a .later)

@@ -7,21 +7,27 @@ use native.Mathlib.Omega.{arith}
 use lib.ListN.{length}
 use Rattle.meaning.specs.Messages.Term.{Message}
 use Rattle.meaning.specs.Steps.State.{State}
+use Rattle.meaning.specs.Places.{Every}
+use Rattle.meaning.proofs.Every.{every-map, every-split}
 use Rattle.nodes.specs.Buffer.{Within}
 use Rattle.states.specs.declared.state.State as code
-use Rattle.moves.specs.Moves.{Move, labelledMoves}
+use Rattle.moves.specs.Moves.{Move, alone, inside, between, labelledMoves}
 use Rattle.forms.specs.Visit.{Labelled}
 use Rattle.moves.specs.Held.{Held}
 use Rattle.moves.specs.Step.{Shown}
 use Rattle.moves.specs.CopyMoves.{Roomy}
 use Rattle.labelled_steps.specs.Labelled.{NextLabelled}
 use Rattle.moves.specs.Behind.{movesOf, modeBefore, nobodyAt, before, Behind, all, later, Searching}
+use Rattle.steps.specs.Kept.{Answered, Resuming}
 use Rattle.steps.specs.Next.{Nexts, NextSilent}
 use Rattle.moves.specs.declared.step.Step as step
 use Rattle.moves.specs.declared.step.Label.{Label}
 use Rattle.moves.specs.declared.step.Label.the-variants.{Output, Input, Silent}
 use Rattle.moves.specs.declared.step.Next.{Next}
+use Rattle.positions.proofs.Laws.Copies.{split-at}
 use Rattle.moves.proofs.Laws.Start.{held-threads}
+use Rattle.labelled_steps.proofs.Laws.LabelledBehind.{Offered, moves-offered}
+use Rattle.steps.proofs.Laws.Kept.{Unshared, answered-unshared}
 use Rattle.labelled_steps.proofs.Laws.LabelledMoves.{labelOf, Asked, first-shown, later-shown}
 
 -- Outputs and inputs.
@@ -53,30 +59,53 @@ module _ {s channel : List ℕ} {st : code.State} {m out message : List ℕ} {r 
       of true asked n e (later earlier w {others} f) = later-shown asked n true earlier w others f refl
       of false asked n e (later earlier w {others} f) = later-shown asked n false earlier w others f refl
 
+-- What holds of all moves holds of those behind a step.
+every-behind : {Q : Move → Type 0} {l : Label} {start : ℕ} {ws others : List Move} {v : step.Step} → Behind l start ws v others → Every Q ws
+    → Every Q others
+every-behind all h = h
+every-behind (later earlier w e) h = every-split (split-at earlier e) h .2
+
+offered-unshared : (sending : Bool) (x : Message) (w : Move) → Offered sending x w → Unshared w
+offered-unshared sending x (alone p a) o = tt
+offered-unshared sending x (inside p j) o = absurd o
+offered-unshared sending x (between p q v) o = absurd o
+
 -- What the function promises.
 module _ {s channel : List ℕ} {st : code.State} {from : step.Step} {m out message : List ℕ} {r : Next} {said : List ℕ} where
-  pub next-output : from .label ≡ Output → NextLabelled s channel st from m out message r said → Nexts s channel st from m out message r said
-  next-output e n = record {
-    exact = λ S x h l o {others} b.
-        labelled-shown true S x h l o n e
-        (subst (λ (k : Label). Behind k (st .start) (movesOf k x (S .next) (h .at .placed)) from others) e b);
+  labelled-next : (held : List ℕ) (sending : Bool) (S : State) (x : Message) (h : Held s out st S) → Labelled channel x → Searching s st m out message
+      → {others : List Move} → NextLabelled s channel st from m out message r said → from .label ≡ labelOf sending
+      → Behind (labelOf sending) (st .start) (labelledMoves sending x (S .next) (h .at .placed)) from others
+      → Answered (st .start) held said r others
+  labelled-next held sending S x h l o n e b =
+      answered-unshared (st .start) held said r
+      (every-map (offered-unshared sending x) (every-behind b (moves-offered sending x (h .judged))))
+      (labelled-shown sending S x h l o n e b)
+
+  pub next-output : {held : List ℕ} → from .label ≡ Output → NextLabelled s channel st from m out message r said
+      → Nexts s channel st from m out held message r held said
+  next-output {held} e n = record {
+    exact = λ S x h l o long {others} b.
+        labelled-next held true S x h l o n e
+        (subst (λ (k : Label). Behind k (st .start) (movesOf k x (S .next) (h .at .placed)) from others) e (b .behind));
   }
 
-  pub next-input : from .label ≡ Input → NextLabelled s channel st from m out message r said → Nexts s channel st from m out message r said
-  next-input e n = record {
-    exact = λ S x h l o {others} b.
-        labelled-shown false S x h l o n e
-        (subst (λ (k : Label). Behind k (st .start) (movesOf k x (S .next) (h .at .placed)) from others) e b);
+  pub next-input : {held : List ℕ} → from .label ≡ Input → NextLabelled s channel st from m out message r said
+      → Nexts s channel st from m out held message r held said
+  next-input {held} e n = record {
+    exact = λ S x h l o long {others} b.
+        labelled-next held false S x h l o n e
+        (subst (λ (k : Label). Behind k (st .start) (movesOf k x (S .next) (h .at .placed)) from others) e (b .behind));
   }
 
-  pub next-silent : from .label ≡ Silent → NextSilent s st from m out message r said → Nexts s channel st from m out message r said
-  next-silent e n = record {
-    exact = λ S x h l o {others} b.
+  pub next-silent : {held on : List ℕ} → from .label ≡ Silent → NextSilent s st from m out held message r on said
+      → Nexts s channel st from m out held message r on said
+  next-silent {held} e n = record {
+    exact = λ S x h l o long {others} b.
         let same : S .next ≡ st .names = sym (h .at .names) in
         let roomy : Roomy s out m message (st .names) (st .end) =
         record { short = o .short; wide = o .wide; room = o .room; few = omega (arith, h .made, h .at .names); long = o .long } in
-        let c = subst (λ (k : Label). Behind k (st .start) (movesOf k x (S .next) (h .at .placed)) from others) e b in
-        n .exact (h .at .placed) tt (rw same at (held-threads h)) roomy (rw same at c);
+        let c = subst (λ (k : Label). Resuming k (st .start) (movesOf k x (S .next) (h .at .placed)) held message from others) e b in
+        n .exact (h .at .placed) tt (rw same at (held-threads h)) roomy long (rw same at c);
   }
 
 -- The place before the first step.

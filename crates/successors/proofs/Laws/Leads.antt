@@ -2,18 +2,30 @@
 use mathlib.Core.Path.{_≡_, refl, sym, _∙_}
 use mathlib.Core.Bool.{Bool, true, false, _||_, true≢false}
 use mathlib.Core.List.{List}
-use Prim.Native.Nat.{ℕ}
+use Prim.Native.Nat.{ℕ, _+_}
 use native.Mathlib.Omega.{arith}
+use borrow.Author.Tests.{ltb-false, le-ltb}
+use lib.Dec.{ltb}
+use lib.ListN.{length}
+use Rattle.meaning.specs.Messages.Term.{Message}
 use Rattle.meaning.specs.Steps.State.{State}
+use Rattle.meaning.specs.Logic.Truth.{anyOf}
+use Rattle.meaning.specs.Judging.Limits.{boundNodes, threadNodes, overState}
+use Rattle.meaning.specs.Judging.Visits.{Arrival}
+use Rattle.meaning.proofs.Test.{neither}
 use Rattle.nodes.specs.Buffer.{Within}
 use Rattle.nodes.proofs.Laws.Buffer.{kept}
 use Rattle.states.specs.declared.state.State as code
 use Rattle.forms.specs.declared.form.Formed.{Formed}
 use Rattle.forms.specs.declared.form.Formed.the-variants as formed
-use Rattle.moves.specs.Outcome.{outcome}
+use Rattle.forms.specs.Form.{overArrival}
+use Rattle.moves.specs.Moves.{Move}
+use Rattle.moves.specs.Moving.{Moving, Leading}
+use Rattle.moves.specs.Outcome.{outcome, arrivalOf}
 use Rattle.moves.specs.Held.{Held}
 use Rattle.rests.specs.Rests.{lastFor, restsOf, Settles}
-use Rattle.successors.specs.Lead.{Leads, LeadsAt}
+use Rattle.successors.specs.Bare.{bareOf, itself, bare, FormsBare}
+use Rattle.successors.specs.Lead.{Leads, LeadsAt, LeadsFor}
 use Rattle.moves.specs.declared.step.Step as step
 use Rattle.rests.specs.declared.names.Rests.{Rests}
 use Rattle.rests.specs.declared.names.Rests.the-variants.{At, OverLimit}
@@ -47,6 +59,30 @@ held-kept {st = st} w h =
       made = h .made;
     }
 
+-- And so do its steps, and the room for what they lead to.
+moving-kept : {s out out₁ message : List ℕ} {st : code.State} {S : State} {high : ℕ} (w : Within (st .end) high out out₁) (h : Held s out st S)
+    {v : step.Step} {x : Message} {u : Move} → Moving s out st S h v x u message → Moving s out₁ st S (held-kept w h) v x u message
+unfolding held-kept
+moving-kept w h moving = record {
+  channel = moving .channel;
+  earlier = moving .earlier;
+  others = moving .others;
+  listed = moving .listed;
+  same = moving .same;
+  stored = moving .stored;
+  small = moving .small;
+  labelled = moving .labelled;
+}
+
+leading-kept : {s m m₁ out out₁ : List ℕ} {st : code.State} {S : State} {low high high₁ : ℕ} → Within low high m m₁
+    → Within (st .end) high₁ out out₁ → Leading s st S m out → Leading s st S m₁ out₁
+leading-kept wm wo leading = record {
+  short = leading .short;
+  wide = omega (arith, leading .wide, wm .long);
+  room = omega (arith, leading .room, wo .long);
+  few = leading .few;
+}
+
 -- Names, or a limit.
 names-or-limit : {last next : ℕ} → At last next ≡ OverLimit → ⊥
 names-or-limit e = let z : _≡_ {A = ℕ} 0 1 = cc in omega arith
@@ -76,30 +112,67 @@ module _ {s : List ℕ} {st : code.State} {v : step.Step} {message m out : List 
       or-first : (a b : Bool) → a ≡ true → (a || b) ≡ true
       or-first a b e = rw e
 
-  pub leads-on : {m₁ out₁ after : List ℕ} {f : Formed} {last next low high high₁ : ℕ} → c ≡ At last next → Within low high m m₁
-      → Within (st .end) high₁ out out₁ → LeadsAt s st v last next message m₁ out₁ f after → Leads s st v message m out f after
-  unfolding held-kept
-  leads-on e wm wo leads = record {
+  pub leads-on : {m₁ after : List ℕ} {f : Formed} {last next low high : ℕ} → c ≡ At last next → Within low high m m₁
+      → LeadsAt s st v last next message m₁ out f after → Leads s st v message m out f after
+  leads-on e wm leads = record {
     exact = λ S h x w moving leading.
         let o = outcome (h .at .placed) (S .next) x w in
         let k = known (o .large) (lastFor w) (o .next) (sym e ∙ settles .exact S h x w moving leading) in
-        leads .exact S (held-kept wo h) x w
-        (record {
-          channel = moving .channel;
-          earlier = moving .earlier;
-          others = moving .others;
-          listed = moving .listed;
-          same = moving .same;
-          stored = moving .stored;
-          small = moving .small;
-          labelled = moving .labelled;
-        })
-        (record {
+        leads .exact S h x w moving (record {
           short = leading .short;
           wide = omega (arith, leading .wide, wm .long);
-          room = omega (arith, leading .room, wo .long);
+          room = leading .room;
           few = leading .few;
         }) (k .small) (k .last-is) (k .next-is);
   }
 
 pub ruleset leadings = (leads-over, leads-on)
+
+-- A state without its threads is within its limits if the whole one is.
+pub bare-free : (A : Arrival) → overArrival A ≡ false → overArrival (bareOf A) ≡ false
+unfolding overState anyOf threadNodes
+bare-free A e =
+    let S = A .state in
+    let (small, within) = neither (A .large) _ e in
+    let n = threadNodes (S .threads) + boundNodes (S .aliases) in
+    let (counts, offers) = neither (ltb 32 (length (S .threads)) || ltb 128 (S .next) || ltb 1024 n) _ within in
+    let (both, many) = neither (ltb 32 (length (S .threads)) || ltb 128 (S .next)) _ counts in
+    let (few, made) = neither (ltb 32 (length (S .threads))) _ both in
+    let light = le-ltb 1024 (0 + boundNodes (S .aliases)) (omega (arith, ltb-false 1024 n many)) in
+    rw (small, made, light)
+
+-- For those that look at the threads, and for others.
+module _ {s : List ℕ} {st : code.State} {v : step.Step} {message m out : List ℕ} {f : Formed} where
+  pub leads-whole : {quiet : Bool} {after : List ℕ} → Leads s st v message m out f after → LeadsFor quiet s st v message m out f after
+  leads-whole leads = record {
+    exact = λ S h x w moving leading.
+        (arrivalOf S (outcome (h .at .placed) (S .next) x w), itself, leads .exact S h x w moving leading);
+  }
+
+  pub leads-again : {quiet : Bool} {m₁ out₁ after : List ℕ} {low high high₁ : ℕ} → Within low high m m₁ → Within (st .end) high₁ out out₁
+      → Leads s st v message m₁ out₁ f after → LeadsFor quiet s st v message m out f after
+  unfolding held-kept
+  leads-again wm wo leads = record {
+    exact = λ S h x w moving leading. (
+      arrivalOf S (outcome (h .at .placed) (S .next) x w),
+      itself,
+      leads .exact S (held-kept wo h) x w (moving-kept wo h moving) (leading-kept wm wo leading),
+    );
+  }
+
+  pub leads-bare : {after : List ℕ} {b : code.State} {quiet : Bool} → FormsBare s st v message m out f after → f ≡ formed.At b → quiet ≡ true
+      → LeadsFor quiet s st v message m out (formed.At b) after
+  leads-bare {after} {b} forms e q = record {
+    exact = λ S h x w moving leading.
+        let A = arrivalOf S (outcome (h .at .placed) (S .next) x w) in
+        let (free, stands, begins) = forms .exact S h x w moving leading b e in (
+          bareOf A,
+          rw q (bare free),
+          record {
+            none = λ t. absurd (true≢false (sym t ∙ bare-free A free));
+            some = λ t. (b, refl, stands, begins);
+          },
+        );
+  }
+
+pub ruleset quiet-leadings = (leads-whole, leads-again, leads-bare)

@@ -114,7 +114,7 @@ module _ {s : List ℕ} {k : ℕ} (few : k ≤ 128) where
       }) (f, g)
 
 -- The offers of a thread, and its silent steps in copies.
-module _ {s : List ℕ} (short : length s ≤ 12288) (t : Placed) (standing : Standing s t) where
+module _ {s : List ℕ} (short : length s ≤ 36864) (t : Placed) (standing : Standing s t) where
   thread-news : news (processOf (t .thread)) ≤ 4096
   thread-news = few-news (processOf (t .thread)) (standing .process) short
 

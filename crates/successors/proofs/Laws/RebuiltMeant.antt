@@ -110,7 +110,7 @@ module _ (s : List ℕ) (k start : ℕ) (few : k ≤ 128) where
     λ ps x. h .final _,
   )
 
-  module _ (short : length s ≤ 12288) (ps : List Placed) (judged : Every (Judged k) ps) (standing : Every (Standing s) ps) where
+  module _ (short : length s ≤ 36864) (ps : List Placed) (judged : Every (Judged k) ps) (standing : Every (Standing s) ps) where
     abbrev Known : Spot → Type 0
     Known p = Judged k (p .thread) × Standing s (p .thread)
 
@@ -139,7 +139,7 @@ module _ (s : List ℕ) (k start : ℕ) (few : k ≤ 128) where
         (every-flatMap _ (every-map (λ p (j, t).
         every-flatMap _ (every-map (λ a h. taken-meant p a h) (offers-acted short (p .thread) t k))) known))
 
-pub meantMove : (s : List ℕ) (ps : List Placed) (k start : ℕ) (few : k ≤ 128) → length s ≤ 12288 → Every (Judged k) ps → Every (Standing s) ps
+pub meantMove : (s : List ℕ) (ps : List Placed) (k start : ℕ) (few : k ≤ 128) → length s ≤ 36864 → Every (Judged k) ps → Every (Standing s) ps
     → EveryMove (MeantTo s k start few) k ps
 meantMove s ps k start few short judged standing =
     (labelled-meant s k start few short ps judged standing, silent-meant s k start few short ps judged standing)

@@ -17,7 +17,7 @@ use Rattle.states.proofs.Laws.Written.{stands-there, no-further, goes-further}
 
 -- It is written, and then what it offers is judged.
 module _ {s m out after : List ℕ} {at end : ℕ} {now pushed : Progress} (w : Pushes m end at out now pushed after)
-    (h : length s ≤ 12288) where
+    (h : length s ≤ 36864) where
   written-as : (p : Prefix) (P : Process) (ρ : Bound) (g : Going) {left next : ℕ} → left ≤ 64
       → ProcessAt s at left (length ρ) (Process.act p P) next → BoundTo m 0 ρ end → Shows s out now g
       → ShowsCourse s after pushed (push at (act ρ p P) g)

@@ -82,15 +82,16 @@ module _ (at : ℕ) (ρ : Bound) (g : Going) where
   unfolding offered
   offered-next p P = ends-unless (overPrefix ρ p P (g .names)) (ends {g = g} refl)
 
-  sought-next : (q : Quest) (k : ℕ) (x : Message) (p : Prefix) → Ends (Next (g .names)) (sought q k x at ρ p g)
+  -- One that seeks and goes on has come to what it had come to.
+  pub sought-ends : {Q : Going → Type 0} → Q g → (q : Quest) (k : ℕ) (x : Message) (p : Prefix) → Ends Q (sought q k x at ρ p g)
   unfolding sought
-  sought-next q k x (output C M) =
+  sought-ends z q k x (output C M) =
       ends-either (q .output && not (ltb at (q .from)) && not (eqb (at + 1) (q .but))) (ends-unless (over ρ C)
-      (ends-either (q .any || same (worked ρ C) x) (ends-unless (over ρ M) (ends-found at k (worked ρ C ∷ worked ρ M ∷ []))) (ends refl)))
-      (ends refl)
-  sought-next q k x (input C) =
+      (ends-either (q .any || same (worked ρ C) x) (ends-unless (over ρ M) (ends-found at k (worked ρ C ∷ worked ρ M ∷ []))) (ends z)))
+      (ends z)
+  sought-ends z q k x (input C) =
       ends-either (not (q .output) && not (ltb at (q .from)) && not (eqb (at + 1) (q .but))) (ends-unless (over ρ C)
-      (ends-either (q .any || same (worked ρ C) x) (ends-found at k []) (ends refl))) (ends refl)
+      (ends-either (q .any || same (worked ρ C) x) (ends-found at k []) (ends z))) (ends z)
 
   built-next : (b : Plan) (x : Message) (p : Prefix) (P : Process) (rest : Bound → Going → Course)
       → Ends (Next (g .names)) (built b x at ρ p P rest g)
@@ -105,7 +106,7 @@ unfolding atPrefix
 prefix-next Count x at ρ p P rest g = ends refl
 prefix-next (Judge k) x at ρ p P rest g = offered-next at ρ g p P
 prefix-next Settle x at ρ p P rest g = then-next (λ n. n) (push-next at (act ρ p P) g) (λ h. offered-next at ρ h p P)
-prefix-next (Seek q k) x at ρ p P rest g = sought-next at ρ g q k x p
+prefix-next (Seek q k) x at ρ p P rest g = sought-ends at ρ g refl q k x p
 prefix-next (SeekIn q c k) x at ρ p P rest g = ends refl
 prefix-next (Find f past k) x at ρ p P rest g = ends refl
 prefix-next (Build b k) x at ρ p P rest g = built-next at ρ g b x p P rest

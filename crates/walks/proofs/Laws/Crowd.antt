@@ -51,7 +51,7 @@ pub grown-nil : (g : Going) → grown g (g .names) [] ≡ g
 unfolding threadNodes
 grown-nil g = rw (append-nil, add-zero)
 
-threadNodes-append : (ts us : List Thread) → threadNodes (ts ++ us) ≡ threadNodes ts + threadNodes us
+pub threadNodes-append : (ts us : List Thread) → threadNodes (ts ++ us) ≡ threadNodes ts + threadNodes us
 unfolding threadNodes
 threadNodes-append [] us = omega arith
 threadNodes-append (act ρ p P ∷ ts) us = omega (arith, threadNodes-append ts us)

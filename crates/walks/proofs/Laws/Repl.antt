@@ -38,7 +38,7 @@ use Rattle.walks.proofs.Laws.Course.{then-next, opening-next, first-nex
 use Rattle.walks.proofs.Laws.Copy.{copy-ready}
 
 -- The copies that a task opens can be opened where the task can be done.
-taking-meant : (s : List ℕ) (b : Plan) → MarksMeant s b → MarksMeant s (taking b)
+pub taking-meant : (s : List ℕ) (b : Plan) → MarksMeant s b → MarksMeant s (taking b)
 taking-meant s b f = ((λ t e. absurd (omega arith)), f .1)
 
 sending-meant : (s : List ℕ) (b : Plan) → MarksMeant s b → MarksMeant s (sending b)
@@ -91,7 +91,7 @@ module _ (s : List ℕ) (P : Process) where
       (either (Openable s P) (holds (c .place) (at + 1) P) way tt, tt)
 
 -- The same place for another task, after a call and with threads that were written since.
-ready-for : {s label m m₁ : List ℕ} {at left end high : ℕ} {T : Task} {x : Message} {ρ : Bound} {g : Going} (P : Process) (U : Task) (h : Going)
+pub ready-for : {s label m m₁ : List ℕ} {at left end high : ℕ} {T : Task} {x : Message} {ρ : Bound} {g : Going} (P : Process) (U : Task) (h : Going)
     → Ready s label at left m end T P x ρ g → Within end high m m₁ → NamesFit U (h .names) P → Meant s U
     → Ready s label at left m₁ end U P x ρ h
 ready-for P U h y k f u = record {

@@ -19,6 +19,7 @@ use Rattle.threads.specs.declared.task.Task.{Task}
 use Rattle.states.specs.declared.progress.Progress.{Progress}
 use Rattle.states.proofs.Laws.Process.{in-model, kindOf, shaped, process-kind, of-par}
 use Rattle.states.proofs.Laws.Progress.{renamed-shows}
+use Rattle.states.proofs.Laws.Written.{no-further}
 use Rattle.threads.proofs.Laws.Offer.{bound-still}
 use Rattle.walks.specs.Walking.{go}
 use Rattle.walks.specs.Head.{CanSettle, HasHead, Descends, Passing, Settled}
@@ -114,14 +115,45 @@ is-nil {h = h} n k e = record {
 
 pub ruleset nodes = (is-nil, is-kind, is-prefix)
 
--- Par: the second side goes on from what the first has come to.
+-- Par: the first side, and whatever comes after it.
+module _ {s label m out out₁ : List ℕ} {at left end : ℕ} {T : Task} {now first : Progress}
+    (v : Walks s label (at + 1) (left - 1) m end T out now first out₁) where
+  sides : {after : List ℕ} {r : Progress}
+      → ((P Q : Process) (z : Message) (ρ : Bound) (g : Going) → Ready s label at left m end T (par P Q) z ρ g → (c : Course)
+      → go P T z (at + 1) ρ g ≡ c → ShowsCourse s out₁ first c → ShowsCourse s after r (further c (go Q T z (rightAt at P) ρ)))
+      → WalksIf 6 s label at left m end T out now r after
+  unfolding go
+  sides {after} {r} second = record {
+    exact = λ e. record { exact = λ P z ρ g y d. let (Q, R, f) = shaped 6 P (y .process) e in rw f (one Q R z ρ g (rw f at y) d) };
+  }
+    where
+      one : (P Q : Process) (z : Message) (ρ : Bound) (g : Going) → Ready s label at left m end T (par P Q) z ρ g → Shows s out now g
+          → ShowsCourse s after r (go (par P Q) T z at ρ g)
+      one P Q z ρ g y d =
+          let (p, q) = of-par P Q (y .process) in
+          second P Q z ρ g y (go P T z (at + 1) ρ g) refl (v .walks .exact P z ρ g (record {
+            next = rightAt at P;
+            process = p;
+            shallow = omega (arith, y .shallow);
+            short = y .short;
+            labelled = y .labelled;
+            small = y .small;
+            normal = y .normal;
+            bound = y .bound;
+            room = omega (arith, y .room);
+            fits = fits-part T (g .names) (g .names) (par P Q) P (omega arith) (omega arith) (y .fits);
+            meant = y .meant;
+          }) d)
+
+  -- Where the first side goes no further, that is all.
+  pub par-stopped : first .going ≡ false → WalksIf 6 s label at left m end T out now first out₁
+  par-stopped off = sides λ P Q z ρ g y c e d. no-further s out₁ first c _ d off
+
+-- The second side goes on from what the first has come to.
 pub par-walked : {s label m m₁ out out₁ after : List ℕ} {at left end mid high : ℕ} {T : Task} {now first r : Progress}
     → Walks s label (at + 1) (left - 1) m end T out now first out₁ → Walks s label mid (left - 1) m₁ end T out₁ first r after
     → Ends s (at + 1) mid → Within end high m m₁ → WalksIf 6 s label at left m end T out now r after
-unfolding go
-par-walked {s} {label} {m} {m₁} {out} {out₁} {after} {at} {left} {end} {mid} {T = T} {now} {first} {r} v w l k = record {
-  exact = λ e. record { exact = λ P z ρ g y d. let (Q, R, f) = shaped 6 P (y .process) e in rw f (one Q R z ρ g (rw f at y) d) };
-}
+par-walked {s} {label} {m} {m₁} {out} {out₁} {after} {at} {left} {end} {mid} {T = T} {now} {first} {r} v w l k = sides v second
   where
     second : (P Q : Process) (z : Message) (ρ : Bound) (g : Going) → Ready s label at left m end T (par P Q) z ρ g → (c : Course) → go P T z (at + 1) ρ g ≡ c
         → ShowsCourse s out₁ first c → ShowsCourse s after r (further c (go Q T z (rightAt at P) ρ))
@@ -144,21 +176,3 @@ par-walked {s} {label} {m} {m₁} {out} {out₁} {after} {at} {left} {end} {mid}
         }) d)
     second P Q z ρ g y over-limit e d = rw (w .stopped (d .off) .0) d
     second P Q z ρ g y (found at₁ k ms) e d = let (same, as-was) = w .stopped (d .off) in rw (same, as-was) d
-
-    one : (P Q : Process) (z : Message) (ρ : Bound) (g : Going) → Ready s label at left m end T (par P Q) z ρ g → Shows s out now g
-        → ShowsCourse s after r (go (par P Q) T z at ρ g)
-    one P Q z ρ g y d =
-        let (p, q) = of-par P Q (y .process) in
-        second P Q z ρ g y (go P T z (at + 1) ρ g) refl (v .walks .exact P z ρ g (record {
-          next = rightAt at P;
-          process = p;
-          shallow = omega (arith, y .shallow);
-          short = y .short;
-          labelled = y .labelled;
-          small = y .small;
-          normal = y .normal;
-          bound = y .bound;
-          room = omega (arith, y .room);
-          fits = fits-part T (g .names) (g .names) (par P Q) P (omega arith) (omega arith) (y .fits);
-          meant = y .meant;
-        }) d)

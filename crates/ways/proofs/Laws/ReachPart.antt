@@ -26,18 +26,15 @@ use Rattle.terms.specs.declared.work.Worked.the-variants.{Done, TooLarge}
 use Rattle.terms.proofs.Laws.Work.{said-over, said-small}
 use Rattle.terms.proofs.Theorems.{boundFurther}
 use Rattle.states.specs.Place.{ProcessAt, thenAt, elseAt, bodyAt, rightAt}
-use Rattle.states.specs.Course.{Going}
-use Rattle.states.specs.Shown.{Shows}
 use Rattle.threads.specs.Thread.{Held}
-use Rattle.states.specs.declared.progress.Progress.{Progress}
 use Rattle.states.proofs.Laws.Process.{in-model, Shape, shaped, of-new, of-if, of-let, of-par, of-repl}
 use Rattle.threads.proofs.Laws.Offer.{bound-at, bound-still}
 use Rattle.positions.specs.Located.{inside}
 use Rattle.positions.proofs.Laws.Located.{inside-bounds, left-only}
 use Rattle.positions.proofs.Laws.Marks.{holds-inside}
-use Rattle.ways.specs.Reach.{Site, Down, here, made, then, else, body, leftward, rightward, copied, Prepared, Allowed, Arrives, Reaches}
-use Rattle.ways.specs.Reach.{PassesIf, OtherPasses, CopyPasses, Takes}
-use Rattle.ways.specs.declared.reach.Reached.{Reached}
+use Rattle.ways.specs.Reach.{Site, Down, here, made, then, else, body, leftward, rightward, copied, Prepared, Allowed, Takes}
+use Rattle.ways.specs.Reach.{Leads, PassesIf, PassesAny, NewPasses, IfPasses}
+use Rattle.ways.specs.declared.reach.Way.{Way}
 use Rattle.ways.proofs.Laws.Reach.{longer, to-settle}
 use Rattle.ways.proofs.Laws.ReachDown.{down-inside, allowed-new, allowed-then, allowed-else, allowed-let, allowed-par}
 use Rattle.ways.proofs.Laws.ReachDown.{allowed-copy}
@@ -48,65 +45,68 @@ mark-held : {s : List ℕ} {at mark next : ℕ} {b : Bool} (w : Site) (P : Proce
 mark-held {at} w P h p e = sym (h .exact P p ∙ rw e (holds-inside (w .place) at P))
 
 -- What is prepared for a process is for a part of it, and for one under one message more.
-module _ {s label m m₁ : List ℕ} {at left end next to : ℕ} {x : Message} {ρ : Bound} where
-  pub prepared-part : {P : Process} {high : ℕ} (Q : Process) → Prepared s label at left m end P x ρ → variables Q ≤ variables P
-      → ProcessAt s next (left - 1) (length ρ) Q to → Within end high m m₁ → Prepared s label next (left - 1) m₁ end Q x ρ
+module _ {s m m₁ : List ℕ} {at left end next to : ℕ} {ρ : Bound} where
+  pub prepared-part : {P : Process} {high : ℕ} (Q : Process) → Prepared s at left m end P ρ → variables Q ≤ variables P
+      → ProcessAt s next (left - 1) (length ρ) Q to → Within end high m m₁ → Prepared s next (left - 1) m₁ end Q ρ
   prepared-part Q y v p k = record {
     next = to;
     process = p;
-    shallow = omega (arith, y .shallow);
-    short = y .short;
-    labelled = y .labelled;
     bound = bound-still (y .bound) k;
     room = omega (arith, y .room, k .long);
   }
 
-  prepared-bound : {P : Process} {last : ℕ} (Q : Process) (z : Message) → Prepared s label at left m end P x ρ → variables P ≡ 1 + variables Q
+  prepared-bound : {P : Process} {last : ℕ} (Q : Process) (z : Message) → Prepared s at left m end P ρ → variables P ≡ 1 + variables Q
       → ProcessAt s next (left - 1) (suc (length ρ)) Q to → Normal z → Binds m end z last m₁ → length m₁ ≡ length m → last ≤ end + 512
-      → Prepared s label next (left - 1) m₁ last Q x (ρ ▸ z)
+      → Prepared s next (left - 1) m₁ last Q (ρ ▸ z)
   prepared-bound {P} {last} Q z y v p n b l e = record {
     next = to;
     process = rw (← longer ρ z) at p;
-    shallow = omega (arith, y .shallow);
-    short = y .short;
-    labelled = y .labelled;
     bound = boundFurther m m₁ 0 end last ρ z (y .bound) n (omega (arith, y .process .few)) b;
     room = omega (arith, y .room);
   }
 
--- What is to be known of a process that stands there, if the mark is not its own; and it is to be known only for processes of the kind.
-abbrev Passing : (s label : List ℕ) (at left : ℕ) (m : List ℕ) (end mark n k : ℕ) (out : List ℕ) → Progress → Reached → List ℕ → Process → Type 0
-Passing s label at left m end mark n k out now r after P =
-    (x : Message) (ρ : Bound) (g : Going) (w : Site) → Prepared s label at left m end P x ρ → Allowed P ρ n k → Shows s out now g
-    → Down P at ρ n k w → mark ≡ w .place + 1 → (at + 1 ≡ mark → ⊥) → Arrives s label after r x w
+-- What is to be known of a process where the way f has come to, if the mark is not its own; and only if it is of the kind.
+abbrev Passing : (s m : List ℕ) (f : Way) (mark : ℕ) (r : Way) (after : List ℕ) → Process → Type 0
+Passing s m f mark r after P =
+    (ρ : Bound) (w : Site) → Prepared s (f .at) (f .left) m (f .end) P ρ → Allowed P ρ (f .names) (f .opens)
+    → Down P (f .at) ρ (f .names) (f .opens) w → mark ≡ w .place + 1 → (f .at + 1 ≡ mark → ⊥) → Leads s after r w
 
-passes-if : {s label m out after : List ℕ} {at left end mark n k : ℕ} {now : Progress} {r : Reached} (kind : ℕ)
-    → ((P : Process) → Shape kind P → Passing s label at left m end mark n k out now r after P)
-    → PassesIf kind s label at left m end mark n k out now r after
-passes-if kind f = record {
+passes-if : {s m after : List ℕ} {f r : Way} {mark : ℕ} (kind : ℕ) → ((P : Process) → Shape kind P → Passing s m f mark r after P)
+    → PassesIf kind s m f mark r after
+passes-if kind h = record {
   exact = λ c. record {
-    exact = λ o. record { exact = λ P x ρ g w y a v d e. f P (shaped kind P (y .process) c) x ρ g w y a v d e o };
+    exact = λ o. record {
+      exact = λ w l e. h (l .process) (shaped kind (l .process) (l .prepared .process) c) (l .bound) w (l .prepared) (l .allowed) (l .down) e o;
+    };
   };
 }
 
 -- New.
-module _ {s label m out : List ℕ} {at left end mark n k : ℕ} {now : Progress} {r : Reached} where
-  pub new-over : {after : List ℕ} → 32759 < n → PassesIf 1 s label at left m end mark n k out now r after
-  new-over h = passes-if 1 λ P (Q, f) x ρ g w y a. absurd (omega (arith, (rw f at a) .own))
+module _ {m : List ℕ} {f : Way} where
+  pub new-over : {r : Way} {after : List ℕ} → 32759 < f .names → NewPasses m f r after
+  new-over h = record {
+    exact = λ s. record { exact = λ mark. passes-if 1 λ P (Q, e) ρ w y a. absurd (omega (arith, (rw e at a) .own)) };
+  }
 
-  pub new-passed : {m₁ after : List ℕ} {last : ℕ} → Reaches s label (at + 1) (left - 1) m₁ last mark (n + 1) k out now r after
-      → Binds m end (leaf (private n)) last m₁ → Within end (end + 4) m m₁ → last ≡ end + 4
-      → PassesIf 1 s label at left m end mark n k out now r after
+  pub new-passed : {m₁ : List ℕ} {last : ℕ} → Binds m (f .end) (leaf (private (f .names))) last m₁ → Within (f .end) (f .end + 4) m m₁
+      → last ≡ f .end + 4
+      → NewPasses m f (record { at = f .at + 1; left = f .left - 1; end = last; names = f .names + 1; opens = f .opens }) m₁
   unfolding normal
-  new-passed {m₁} {after} {last} u b h l = passes-if 1 λ P (Q, f). rw f (one Q)
+  new-passed {m₁} {last} b h l = record { exact = λ s. record { exact = λ mark. passes-if 1 λ P (Q, e). rw e (one Q) } }
     where
-      one : (P : Process) → Passing s label at left m end mark n k out now r after (new P)
-      one P x ρ g w y a v here e o = absurd (o (omega arith))
-      one P x ρ g w y a v (made d) e o =
-          let next : n + 1 ≡ suc n = omega arith in
-          (rw next at u) .exact P x (ρ ▸ leaf (private n)) g w
-          (prepared-bound P (leaf (private n)) y refl (of-new P (y .process)) (normalForms (leaf (private n)) .0) b (h .long) (omega arith))
-          (allowed-new P a) v d e
+      one : {s : List ℕ} {mark : ℕ} (P : Process) →
+          Passing s m f mark (record { at = f .at + 1; left = f .left - 1; end = last; names = f .names + 1; opens = f .opens }) m₁ (new P)
+      one P ρ w y a here e o = absurd (o (omega arith))
+      one P ρ w y a (made d) e o =
+          let x = leaf (private (f .names)) in
+          let next : f .names + 1 ≡ suc (f .names) = omega arith in
+          rw next (record {
+            process = P;
+            bound = ρ ▸ x;
+            prepared = prepared-bound P x y refl (of-new P (y .process)) (normalForms x .0) b (h .long) (omega arith);
+            allowed = allowed-new P a;
+            down = d;
+          })
 
 pub ruleset news-passed = (new-over, new-passed)
 
@@ -120,121 +120,144 @@ first-there {s} {at} t M N P Q p =
     t .same (record { trees = M ∷ N ∷ []; many = refl; there = both })
 
 -- If: the branch that has the mark in it is the one that is taken.
-module _ {s label m out after : List ℕ} {at left end mark n k first : ℕ} {now : Progress} {r : Reached} (t : TermsEnd s (at + 1) 2 first) where
-  pub then-passed : {b : Bool} → Held s first mark b → b ≡ true → Reaches s label first (left - 1) m end mark n k out now r after
-      → PassesIf 4 s label at left m end mark n k out now r after
-  then-passed {b} h is u = passes-if 4 λ P (M, N, Q, R, f). rw f (one M N Q R)
+module _ {s : List ℕ} {f : Way} {mark first : ℕ} (t : TermsEnd s (f .at + 1) 2 first) where
+  pub then-passed : {b : Bool} → Held s first mark b → b ≡ true
+      → IfPasses s f mark (record { at = first; left = f .left - 1; end = f .end; names = f .names; opens = f .opens })
+  then-passed {b} h is = record { exact = λ m. passes-if 4 λ P (M, N, Q, R, e). rw e (one M N Q R) }
     where
-      one : (M N : Term) (P Q : Process) → Passing s label at left m end mark n k out now r after (if M N P Q)
-      one M N P Q x ρ g w y a v here e o = absurd (o (omega arith))
-      one M N P Q x ρ g w y a v (then z d) e o =
+      one : {m : List ℕ} (M N : Term) (P Q : Process)
+          → Passing s m f mark (record { at = first; left = f .left - 1; end = f .end; names = f .names; opens = f .opens }) m (if M N P Q)
+      one M N P Q ρ w y a here e o = absurd (o (omega arith))
+      one M N P Q ρ w y a (then z d) e o =
+          let (i, j, p, q) = of-if M N P Q (y .process) in
+          rw (first-there t M N P Q (y .process)) (record {
+            process = P;
+            bound = ρ;
+            prepared = prepared-part P y (omega arith) p (unchanged {low = f .end} {high = f .end});
+            allowed = allowed-then M N P Q z a;
+            down = d;
+          })
+      one M N P Q ρ w y a (else z d) e o =
           let (i, j, p, q) = of-if M N P Q (y .process) in
           let there = first-there t M N P Q (y .process) in
-          (rw there at u) .exact P x ρ g w (prepared-part P y (omega arith) p (unchanged {low = end} {high = end})) (allowed-then M N P Q z a) v d e
-      one M N P Q x ρ g w y a v (else z d) e o =
-          let (i, j, p, q) = of-if M N P Q (y .process) in
-          let there = first-there t M N P Q (y .process) in
-          let inner : inside (w .place) (thenAt at M N) P ≡ true = mark-held w P (rw there at h) (in-model p) e ∙ is in
-          let (low, high) = inside-bounds (w .place) (thenAt at M N) P inner in
-          let (low′, high′) = inside-bounds (w .place) (elseAt at M N P) Q (down-inside w d) in
+          let inner : inside (w .place) (thenAt (f .at) M N) P ≡ true = mark-held w P (rw there at h) (in-model p) e ∙ is in
+          let (low, high) = inside-bounds (w .place) (thenAt (f .at) M N) P inner in
+          let (low′, high′) = inside-bounds (w .place) (elseAt (f .at) M N P) Q (down-inside w d) in
           absurd (omega arith)
 
   pub else-passed : {b : Bool} {second : ℕ} → Held s first mark b → b ≡ false → Ends s first second
-      → Reaches s label second (left - 1) m end mark n k out now r after → PassesIf 4 s label at left m end mark n k out now r after
-  else-passed {b} {second} h is l u = passes-if 4 λ P (M, N, Q, R, f). rw f (one M N Q R)
+      → IfPasses s f mark (record { at = second; left = f .left - 1; end = f .end; names = f .names; opens = f .opens })
+  else-passed {b} {second} h is l = record { exact = λ m. passes-if 4 λ P (M, N, Q, R, e). rw e (one M N Q R) }
     where
-      one : (M N : Term) (P Q : Process) → Passing s label at left m end mark n k out now r after (if M N P Q)
-      one M N P Q x ρ g w y a v here e o = absurd (o (omega arith))
-      one M N P Q x ρ g w y a v (then z d) e o =
+      one : {m : List ℕ} (M N : Term) (P Q : Process)
+          → Passing s m f mark (record { at = second; left = f .left - 1; end = f .end; names = f .names; opens = f .opens }) m (if M N P Q)
+      one M N P Q ρ w y a here e o = absurd (o (omega arith))
+      one M N P Q ρ w y a (then z d) e o =
           let (i, j, p, q) = of-if M N P Q (y .process) in
           let there = first-there t M N P Q (y .process) in
-          let outer : inside (w .place) (thenAt at M N) P ≡ false = mark-held w P (rw there at h) (in-model p) e ∙ is in
+          let outer : inside (w .place) (thenAt (f .at) M N) P ≡ false = mark-held w P (rw there at h) (in-model p) e ∙ is in
           absurd (true≢false (sym (down-inside w d) ∙ outer))
-      one M N P Q x ρ g w y a v (else z d) e o =
+      one M N P Q ρ w y a (else z d) e o =
           let (i, j, p, q) = of-if M N P Q (y .process) in
           let there = first-there t M N P Q (y .process) in
-          let behind : second ≡ elseAt at M N P = (rw there at l) .same P (in-model p) in
-          (rw behind at u) .exact Q x ρ g w (prepared-part Q y (omega arith) q (unchanged {low = end} {high = end})) (allowed-else M N P Q z a) v d e
+          let behind : second ≡ elseAt (f .at) M N P = (rw there at l) .same P (in-model p) in
+          rw behind (record {
+            process = Q;
+            bound = ρ;
+            prepared = prepared-part Q y (omega arith) q (unchanged {low = f .end} {high = f .end});
+            allowed = allowed-else M N P Q z a;
+            down = d;
+          })
 
 pub ruleset ifs-passed = (then-passed, else-passed)
 
 -- Let.
-module _ {s label m m₁ out : List ℕ} {at left end mark n k : ℕ} {now : Progress} {r : Reached} {t : Worked}
-    (b : BindWorked s (at + 1) m 0 end t m₁) where
-  pub let-over : {after : List ℕ} → t ≡ TooLarge → PassesIf 5 s label at left m end mark n k out now r after
-  let-over is = passes-if 5 λ P (M, Q, f) x ρ g w y a.
-      let (i, p) = of-let M Q ((rw f at y) .process) in
-      let (small, rest) = allowed-let M Q (rw f at a) in
-      absurd (true≢false (sym (said-over _ _ _ (b .answer M ρ i (bound-at (y .bound))) is) ∙ small))
+module _ {s m m₁ : List ℕ} {f : Way} {t : Worked} (b : BindWorked s (f .at + 1) m 0 (f .end) t m₁) where
+  pub let-over : {r : Way} {after : List ℕ} → t ≡ TooLarge → PassesAny 5 s m f r after
+  let-over is = record {
+    exact = λ mark. passes-if 5 λ P (M, Q, e) ρ w y a.
+        let (i, p) = of-let M Q ((rw e at y) .process) in
+        let (small, rest) = allowed-let M Q (rw e at a) in
+        absurd (true≢false (sym (said-over _ _ _ (b .answer M ρ i (bound-at (y .bound))) is) ∙ small));
+  }
 
-  pub let-passed : {after : List ℕ} {next last : ℕ} → t ≡ Done next last → Reaches s label next (left - 1) m₁ last mark n k out now r after
-      → Within end (end + 4098) m m₁ → last ≤ end + 2 + 510 → PassesIf 5 s label at left m end mark n k out now r after
-  let-passed {after} {next} {last} is u h l = passes-if 5 λ P (M, Q, f). rw f (one M Q)
+  pub let-passed : {next last : ℕ} → t ≡ Done next last → Within (f .end) (f .end + 4098) m m₁ → last ≤ f .end + 2 + 510
+      → PassesAny 5 s m f (record { at = next; left = f .left - 1; end = last; names = f .names; opens = f .opens }) m₁
+  let-passed {next} {last} is h l = record { exact = λ mark. passes-if 5 λ P (M, Q, e). rw e (one M Q) }
     where
-      one : (M : Term) (P : Process) → Passing s label at left m end mark n k out now r after (let-in M P)
-      one M P x ρ g w y a v here e o = absurd (o (omega arith))
-      one M P x ρ g w y a v (body d) e o =
+      one : {mark : ℕ} (M : Term) (P : Process)
+          → Passing s m f mark (record { at = next; left = f .left - 1; end = last; names = f .names; opens = f .opens }) m₁ (let-in M P)
+      one M P ρ w y a here e o = absurd (o (omega arith))
+      one M P ρ w y a (body d) e o =
           let (i, p) = of-let M P (y .process) in
           let (small, there, ends) = said-small _ _ _ (b .answer M ρ i (bound-at (y .bound))) is in
           let run = b .run M ρ i (bound-at (y .bound)) small in
-          (rw there at u) .exact P x (ρ ▸ worked ρ M) g w
-          (prepared-bound P (worked ρ M) y refl p (normalForms (written ρ M) .0) (rw (← ends) at run) (h .long) (omega arith))
-          (allowed-let M P a .1) v d e
+          rw there (record {
+            process = P;
+            bound = ρ ▸ worked ρ M;
+            prepared = prepared-bound P (worked ρ M) y refl p (normalForms (written ρ M) .0) (rw (← ends) at run) (h .long) (omega arith);
+            allowed = allowed-let M P a .1;
+            down = d;
+          })
 
 pub ruleset lets-passed = (let-over, let-passed)
 
 -- Par: the side that has the mark in it; the second is settled after the names of the first.
-module _ {s label m out after : List ℕ} {at left end mark n k : ℕ} {now : Progress} {r : Reached} where
-  pub left-passed : {b : Bool} → Held s (at + 1) mark b → b ≡ true → Reaches s label (at + 1) (left - 1) m end mark n k out now r after
-      → PassesIf 6 s label at left m end mark n k out now r after
-  left-passed h is u = passes-if 6 λ P (Q, R, f). rw f (one Q R)
+module _ {s m : List ℕ} {f : Way} {mark : ℕ} {b : Bool} (h : Held s (f .at + 1) mark b) where
+  pub left-passed : b ≡ true
+      → PassesIf 6 s m f mark (record { at = f .at + 1; left = f .left - 1; end = f .end; names = f .names; opens = f .opens }) m
+  left-passed is = passes-if 6 λ P (Q, R, e). rw e (one Q R)
     where
-      one : (P Q : Process) → Passing s label at left m end mark n k out now r after (par P Q)
-      one P Q x ρ g w y a v here e o = absurd (o (omega arith))
-      one P Q x ρ g w y a v (leftward d) e o =
+      one : (P Q : Process)
+          → Passing s m f mark (record { at = f .at + 1; left = f .left - 1; end = f .end; names = f .names; opens = f .opens }) m (par P Q)
+      one P Q ρ w y a here e o = absurd (o (omega arith))
+      one P Q ρ w y a (leftward d) e o =
           let (p, q) = of-par P Q (y .process) in
-          u .exact P x ρ g w (prepared-part P y (omega arith) p (unchanged {low = end} {high = end})) (allowed-par P Q a .0) v d e
-      one P Q x ρ g w y a v (rightward d) e o =
+          record {
+            process = P;
+            bound = ρ;
+            prepared = prepared-part P y (omega arith) p (unchanged {low = f .end} {high = f .end});
+            allowed = allowed-par P Q a .0;
+            down = d;
+          }
+      one P Q ρ w y a (rightward d) e o =
           let (p, q) = of-par P Q (y .process) in
-          let inner : inside (w .place) (at + 1) P ≡ true = mark-held w P h (in-model p) e ∙ is in
-          absurd (true≢false (sym (down-inside w d) ∙ left-only (w .place) at P Q inner))
+          let inner : inside (w .place) (f .at + 1) P ≡ true = mark-held w P h (in-model p) e ∙ is in
+          absurd (true≢false (sym (down-inside w d) ∙ left-only (w .place) (f .at) P Q inner))
 
-  pub not-left : {b : Bool} → Held s (at + 1) mark b → b ≡ false → OtherPasses s label at left m end mark n k out now r after
-      → PassesIf 6 s label at left m end mark n k out now r after
-  not-left h is f = f .exact (rw is at h)
-
-  pub right-passed : {m₁ : List ℕ} {later mid high : ℕ} → Takes s (at + 1) (left - 1) m end n later → Within end high m m₁
-      → Ends s (at + 1) mid → Reaches s label mid (left - 1) m₁ end mark later k out now r after
-      → OtherPasses s label at left m end mark n k out now r after
-  right-passed {m₁} {later} {mid} names-of i l u = record { exact = λ h. passes-if 6 λ P (Q, R, f). rw f (one h Q R) }
+  pub right-passed : {m₁ : List ℕ} {later mid high : ℕ} → b ≡ false → Takes s (f .at + 1) (f .left - 1) m (f .end) (f .names) later
+      → Within (f .end) high m m₁ → Ends s (f .at + 1) mid
+      → PassesIf 6 s m f mark (record { at = mid; left = f .left - 1; end = f .end; names = later; opens = f .opens }) m₁
+  right-passed {m₁} {later} {mid} is names-of i l = passes-if 6 λ P (Q, R, e). rw e (one Q R)
     where
-      one : Held s (at + 1) mark false → (P Q : Process) → Passing s label at left m end mark n k out now r after (par P Q)
-      one h P Q x ρ g w y a v here e o = absurd (o (omega arith))
-      one h P Q x ρ g w y a v (leftward d) e o =
+      one : (P Q : Process)
+          → Passing s m f mark (record { at = mid; left = f .left - 1; end = f .end; names = later; opens = f .opens }) m₁ (par P Q)
+      one P Q ρ w y a here e o = absurd (o (omega arith))
+      one P Q ρ w y a (leftward d) e o =
           let (p, q) = of-par P Q (y .process) in
-          absurd (true≢false (sym (down-inside w d) ∙ mark-held w P h (in-model p) e))
-      one h P Q x ρ g w y a v (rightward d) e o =
+          absurd (true≢false (sym (down-inside w d) ∙ (mark-held w P h (in-model p) e ∙ is)))
+      one P Q ρ w y a (rightward d) e o =
           let (p, q) = of-par P Q (y .process) in
-          let (f, f′) = allowed-par P Q a in
-          let first = prepared-part P y (omega arith) p (unchanged {low = end} {high = end}) in
-          let next : later ≡ names P ρ n = names-of .exact P ρ (to-settle first (f .own)) (f .settling) in
-          let behind : mid ≡ rightAt at P = l .same P (in-model p) in
-          (rw (behind, next) at u) .exact Q x ρ g w (prepared-part Q y (omega arith) q i) f′ v d e
+          let (u, u′) = allowed-par P Q a in
+          let first = prepared-part P y (omega arith) p (unchanged {low = f .end} {high = f .end}) in
+          let next : later ≡ names P ρ (f .names) = names-of .exact P ρ (to-settle first (u .own)) (u .settling) in
+          let behind : mid ≡ rightAt (f .at) P = l .same P (in-model p) in
+          rw (behind, next) (record { process = Q; bound = ρ; prepared = prepared-part Q y (omega arith) q i; allowed = u′; down = d })
 
-pub ruleset sides-passed = (left-passed, not-left)
+pub ruleset sides-passed = (left-passed, right-passed)
 
 -- Repl: the copy, in which copies open after its names.
-pub copy-passed : {s label m m₁ out after : List ℕ} {at left end mark k later high : ℕ} {now : Progress} {r : Reached}
-    → Takes s (at + 1) (left - 1) m end k later → Within end high m m₁
-    → Reaches s label (at + 1) (left - 1) m₁ end mark k later out now r after → CopyPasses s label at left m end mark k out now r after
-copy-passed {s} {label} {m} {m₁} {out} {after} {at} {left} {end} {mark} {k} {later} {now = now} {r = r} names-of i u =
-    record { exact = λ n. passes-if 7 λ P (Q, f). rw f (one n Q) }
+pub copy-passed : {s m m₁ : List ℕ} {f : Way} {later high : ℕ} → Takes s (f .at + 1) (f .left - 1) m (f .end) (f .opens) later
+    → Within (f .end) high m m₁
+    → PassesAny 7 s m f (record { at = f .at + 1; left = f .left - 1; end = f .end; names = f .opens; opens = later }) m₁
+copy-passed {s} {m} {m₁} {f} {later} names-of i = record { exact = λ mark. passes-if 7 λ P (Q, e). rw e (one Q) }
   where
-    one : (n : ℕ) (P : Process) → Passing s label at left m end mark n k out now r after (repl P)
-    one n P x ρ g w y a v here e o = absurd (o (omega arith))
-    one n P x ρ g w y a v (copied d) e o =
+    one : {mark : ℕ} (P : Process)
+        → Passing s m f mark (record { at = f .at + 1; left = f .left - 1; end = f .end; names = f .opens; opens = later }) m₁ (repl P)
+    one P ρ w y a here e o = absurd (o (omega arith))
+    one P ρ w y a (copied d) e o =
         let p = of-repl P (y .process) in
-        let f = allowed-copy P a in
-        let first = prepared-part P y (omega arith) p (unchanged {low = end} {high = end}) in
-        let next : later ≡ names P ρ k = names-of .exact P ρ (to-settle first (f .own)) (f .settling) in
-        (rw next at u) .exact P x ρ g w (prepared-part P y (omega arith) p i) f v d e
+        let u = allowed-copy P a in
+        let first = prepared-part P y (omega arith) p (unchanged {low = f .end} {high = f .end}) in
+        let next : later ≡ names P ρ (f .opens) = names-of .exact P ρ (to-settle first (u .own)) (u .settling) in
+        rw next (record { process = P; bound = ρ; prepared = prepared-part P y (omega arith) p i; allowed = u; down = d })

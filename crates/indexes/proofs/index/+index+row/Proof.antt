@@ -14,6 +14,9 @@ use Rattle.indexes.proofs.index.row.Reads as row
 use Rattle.indexes.proofs.index.row.Kinds as row-kinds
 use Rattle.indexes.proofs.index.+index+row.Lts-row as row-lts
 use Rattle.indexes.proofs.index.note.Reads as note-reads
+use Rattle.indexes.proofs.entry.none.Reads as none-reads
+use Rattle.indexes.proofs.entry.node.Reads as node-reads
+use Rattle.indexes.proofs.entry.joined.Reads as joined-reads
 use Rattle.layouts.proofs.ends.terms.Reads as terms-reads
 use Rattle.layouts.proofs.layout.process.Reads as process-reads
 use Rattle.nodes.proofs.node.wide.Reads as wide-reads
@@ -35,6 +38,8 @@ below ps μ pre t = and 1 ps (falls 1 ps _<_ μ t) pre
 
 abbrev index-claims : ℕ → index-lts.Claims
 index-claims t = (
+  none-reads.Asked,
+  none-reads.Learnt,
   wide-reads.Asked,
   wide-reads.Learnt,
   process-reads.Asked,
@@ -43,12 +48,21 @@ index-claims t = (
   terms-reads.Learnt,
   below row-kinds.ps μ-row row.Pre t,
   row.Post,
+  node-reads.Asked,
+  node-reads.Learnt,
   note-reads.Asked,
   note-reads.Learnt,
 )
 
 abbrev row-claims : ℕ → row-lts.Claims
-row-claims t = (below index-kinds.ps μ-index index.Pre t, index.Post)
+row-claims t = (
+  none-reads.Asked,
+  none-reads.Learnt,
+  below index-kinds.ps μ-index index.Pre t,
+  index.Post,
+  joined-reads.Asked,
+  joined-reads.Learnt,
+)
 
 pub +index+row-spec : {M : Type 1} → statement M
 +index+row-spec =
@@ -58,14 +72,17 @@ pub +index+row-spec : {M : Type 1} → statement M
     (λ t. index-lts.spec (index-claims t)
     (at index-kinds.ps μ-index index.Pre t)
     index.Post
-    (λ c. search (needs, unchanged, indexing))
-    (λ c. search (needs, unchanged, indexing))
+    (λ c κs. search needs)
+    (λ c. (search (needs, unchanged), search (needs, indexing)))
+    (λ c κs. search needs)
+    (λ c. (search (needs, unchanged), search (needs, indexing)))
     (λ c. search needs)
     (λ c κs. search needs)
     (λ c κs. search needs)
     (λ c. search needs)
     (λ c κs. search needs)
     (λ c. search needs)
+    (λ c κs. search needs)
     (λ c κs. search needs)
     (λ c κs. search needs)
     (λ c. search needs)
@@ -73,10 +90,12 @@ pub +index+row-spec : {M : Type 1} → statement M
     λ t. row-lts.spec (row-claims t)
     (at row-kinds.ps μ-row row.Pre t)
     row.Post
+    (λ c κs. search needs)
     (λ c. (search (needs, unchanged), search (needs, rows)))
     (λ c κs. search needs)
     (λ c. search needs)
     (λ c. (search needs, search (needs, rows)))
+    (λ c κs. search needs)
     (λ c κs. search needs)
     (λ c. search needs)
     (λ c. (search (needs, one-after), search (needs, rows)))

@@ -1,16 +1,11 @@
 -- `indexes::index::end` meets its contract. Assumes nothing.
 use borrow.Author.Needs.{needs}
-use Rattle.indexes.proofs.Laws.Index.{endings}
+use Rattle.indexes.proofs.Laws.Read.{meanings}
 use Rattle.indexes.proofs.index.end.Statement.{statement}
 use Rattle.indexes.proofs.index.end.Tie as tie
 
 pub end-spec : {M : Type 1} → statement M
 end-spec = tie.close (tie.spec
-    (λ c. (search needs, search (needs, endings)))
-    (λ c. search needs)
-    (λ c. search needs)
-    (λ c. search needs)
-    (λ c. (search needs, search (needs, endings)))
     (λ c κs. search needs)
-    (λ c. (search needs, search (needs, endings)))
-    (λ c. (search needs, search (needs, endings))))
+    (λ c. (search needs, search (needs, meanings)))
+    (λ c. (search needs, search (needs, meanings))))

@@ -1,8 +1,6 @@
 -- `offers::seek::look` meets its contract. Assumes nothing.
 use borrow.Author.Needs.{needs}
 use Rattle.nodes.proofs.Laws.Buffer.{unchanged}
-use Rattle.states.proofs.Laws.Progress.{to-ends}
-use Rattle.forms.proofs.Laws.Visit.{behind}
 use Rattle.offers.proofs.Laws.Look.{looks}
 use Rattle.offers.proofs.seek.look.Statement.{statement}
 use Rattle.offers.proofs.seek.look.Tie as tie
@@ -16,11 +14,10 @@ look-spec = tie.close (tie.spec
     (λ c. search needs)
     (λ c κs. search needs)
     (λ c κs. search needs)
+    (λ c. search needs)
+    (λ c. search needs)
+    (λ c. (search needs, (search needs, search needs)))
     (λ c κs. search needs)
     (λ c. search needs)
     (λ c. search needs)
-    (λ c. (search (needs, to-ends), (search (needs, behind), search (needs, looks))))
-    (λ c κs. search needs)
-    (λ c. search needs)
-    (λ c. search needs)
-    (λ c. (search (needs, to-ends), (search needs, search (needs, looks)))))
+    (λ c. (search needs, (search needs, search (needs, looks)))))

@@ -12,7 +12,7 @@ use Rattle.offers.proofs.seek.seek.Tie as tie
 abbrev Inv-loop : tie.InvT-loop
 Inv-loop s label at to m₀ skip names out₀ last i₀ here₀ m out i here =
     Within 0 (length m₀) m₀ m × Within to (length out₀) out₀ out × Comes s label to skip names i₀ here₀ m₀ out₀ i here m out
-    × (length s ≤ 12288) × (to ≤ length out) × (4 ≤ to)
+    × (length s ≤ 36864) × (to ≤ length out) × (4 ≤ to)
 
 abbrev μ-loop : tie.MeasureT-loop
 μ-loop s label at to m₀ skip names out₀ last i₀ here₀ m out i here = to - i

@@ -18,10 +18,10 @@ use Rattle.pairs.proofs.meet.+meet+onward.{statement}
 use Rattle.pairs.proofs.meet.+meet+onward.Tie.{close}
 
 abbrev μ-meet : Measures 4 meet-kinds.ps ℕ
-μ-meet κs a = 2 * (12289 - a .1 .1 .1 .1 .1 .1 .1 .0)
+μ-meet κs a = 2 * (36865 - a .1 .1 .1 .1 .1 .1 .1 .0)
 
 abbrev μ-onward : Measures 4 onward-kinds.ps ℕ
-μ-onward κs a = 2 * (12289 - a .1 .1 .1 .1 .1 .1 .1 .0 .mark) + 1
+μ-onward κs a = 2 * (36865 - a .1 .1 .1 .1 .1 .1 .1 .0 .mark) + 1
 
 abbrev meet-at : ℕ → In 4 meet-kinds.ps
 meet-at t = and 4 meet-kinds.ps (is 4 meet-kinds.ps μ-meet t) meet.Pre

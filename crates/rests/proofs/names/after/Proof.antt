@@ -7,9 +7,8 @@ use Rattle.rests.proofs.names.after.Tie as tie
 
 pub after-spec : {M : Type 1} → statement M
 after-spec = tie.close (tie.spec
-    (λ c. (search (needs, unchanged), (search (needs, unchanged), search (needs, actors))))
-    (λ c. (search (needs, unchanged), (search (needs, unchanged), search (needs, actors))))
+    (λ c. (search (needs, unchanged), search (needs, actors)))
+    (λ c. (search (needs, unchanged), search (needs, actors)))
     (λ c κs. search needs)
     (λ c. search needs)
-    (λ c. search needs)
-    (λ c. (search needs, (search needs, search (needs, actors)))))
+    (λ c. (search needs, search (needs, actors))))

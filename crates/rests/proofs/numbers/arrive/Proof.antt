@@ -1,15 +1,15 @@
 -- `rests::numbers::arrive` meets its contract. Assumes nothing.
 use borrow.Author.Needs.{needs}
-use Rattle.rests.proofs.Laws.Numbers.{thread-arrives, frames}
-use Rattle.states.proofs.Laws.Progress.{to-ends}
+use Rattle.rests.proofs.Laws.Numbers.{arriving, frames}
 use Rattle.rests.proofs.numbers.arrive.Statement.{statement}
 use Rattle.rests.proofs.numbers.arrive.Tie as tie
 
 pub arrive-spec : {M : Type 1} → statement M
 arrive-spec = tie.close (tie.spec
     (λ c κs. search needs)
-    (λ c κs. search needs)
-    (λ c κs. search needs)
     (λ c. search needs)
     (λ c. search needs)
-    (λ c. (search needs, (search (needs, to-ends), (search (needs, frames), search (needs, thread-arrives))))))
+    (λ c. (search needs, (search (needs, frames), search (needs, arriving))))
+    (λ c κs. search needs)
+    (λ c. search needs)
+    (λ c. (search needs, (search (needs, frames), search (needs, arriving)))))

@@ -1,7 +1,6 @@
 -- `rests::numbers::count` meets its contract. Assumes nothing.
 use borrow.Author.Needs.{needs}
-use Rattle.rests.proofs.Laws.Numbers.{counting}
-use Rattle.states.proofs.Laws.Progress.{to-ends}
+use Rattle.rests.proofs.Laws.Numbers.{thread-counted, frames}
 use Rattle.rests.proofs.numbers.count.Statement.{statement}
 use Rattle.rests.proofs.numbers.count.Tie as tie
 
@@ -10,5 +9,4 @@ count-spec = tie.close (tie.spec
     (λ c κs. search needs)
     (λ c κs. search needs)
     (λ c. search needs)
-    (λ c. search needs)
-    (λ c. (search (needs, to-ends), (search (needs, to-ends), search (needs, counting)))))
+    (λ c. (search (needs, frames), search (needs, thread-counted))))

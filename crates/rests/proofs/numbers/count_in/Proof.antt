@@ -1,7 +1,6 @@
 -- `rests::numbers::count_in` meets its contract. Assumes nothing.
 use borrow.Author.Needs.{needs}
-use Rattle.rests.proofs.Laws.Numbers.{counting}
-use Rattle.states.proofs.Laws.Progress.{to-ends}
+use Rattle.rests.proofs.Laws.Numbers.{copy-counted, frames}
 use Rattle.rests.proofs.numbers.count_in.Statement.{statement}
 use Rattle.rests.proofs.numbers.count_in.Tie as tie
 
@@ -9,9 +8,6 @@ pub count-in-spec : {M : Type 1} → statement M
 count-in-spec = tie.close (tie.spec
     (λ c κs. search needs)
     (λ c κs. search needs)
+    (λ c κs. search needs)
     (λ c. search needs)
-    (λ c. search needs)
-    (λ c. (search (needs, to-ends), (search (needs, to-ends), search (needs, counting))))
-    (λ c. search needs)
-    (λ c. search needs)
-    (λ c. (search (needs, to-ends), (search (needs, to-ends), search (needs, counting)))))
+    (λ c. (search (needs, frames), search (needs, copy-counted))))

@@ -6,16 +6,13 @@ use Rattle.rests.proofs.numbers.enter.Tie as tie
 
 pub enter-spec : {M : Type 1} → statement M
 enter-spec = tie.close (tie.spec
-    (λ c κs. search needs)
-    (λ c. (search needs, (search (needs, frames), (search (needs, frames), search (needs, entering)))))
-    (λ c. (search needs, (search (needs, frames), (search (needs, frames), search (needs, entering)))))
+    (λ c. (search needs, (search (needs, frames), search (needs, entering))))
+    (λ c. (search needs, (search (needs, frames), search (needs, entering))))
     (λ c. search needs)
     (λ c. search needs)
     (λ c κs. search needs)
     (λ c. search needs)
-    (λ c. search needs)
-    (λ c. (search needs, (search (needs, frames), (search (needs, frames), search (needs, entering)))))
+    (λ c. (search needs, (search (needs, frames), search (needs, entering))))
     (λ c κs. search needs)
     (λ c. search needs)
-    (λ c. search needs)
-    (λ c. (search needs, (search (needs, frames), (search (needs, frames), search (needs, entering))))))
+    (λ c. (search needs, (search (needs, frames), search (needs, entering)))))

@@ -2,6 +2,7 @@
 -- levels left at each state that is followed, six calls to a level; within a level the place of the label rises to its end, and the number of
 -- steps to how many there are. Assumes nothing.
 use Prim.Native.Nat.{ℕ, _+_, _*_, _-_, _<_, _≤_}
+use native.Mathlib.Omega.{arith}
 use mathlib.Core.List.{List}
 use mathlib.Core.Path.{_≡_}
 use lib.ListN.{length}
@@ -55,7 +56,7 @@ abbrev μ-follow-all : Measures 6 follow-all-kinds.ps ℕ
 abbrev μ-follow-steps : Measures 6 follow-steps-kinds.ps ℕ
 μ-follow-steps κs a = 6 * a .1 .1 .1 .0 + 7
 
-abbrev μ-follow-step : Measures 6 follow-step-kinds.ps ℕ
+abbrev μ-follow-step : Measures 8 follow-step-kinds.ps ℕ
 μ-follow-step κs a = 6 * a .1 .1 .1 .0 + 6
 
 -- The measure is t, or below t, and what the function requires holds.
@@ -73,11 +74,11 @@ abbrev follow-μ-loop : follow-lts.MeasureT-loop
 follow-μ-loop s labels at left known state m₀ out₀ below next i₀ m out i = length labels + 4 - i
 
 abbrev follow-steps-Inv-loop : follow-steps-lts.InvT-loop
-follow-steps-Inv-loop s labels next left known state n channel taken m₀ out₀ step₀ done₀ m out step done =
-    (done ≤ n) × (n ≤ 4096) × (length m ≡ length m₀) × (length out ≡ length out₀)
+follow-steps-Inv-loop s labels next left known state n channel taken m₀ out₀ step₀ held₀ message₀ done₀ m out step held message done =
+    (done ≤ n) × (n ≤ 4096) × (length m ≡ length m₀) × (length out ≡ length out₀) × (length held ≡ 510) × (length message ≡ 510)
 
 abbrev follow-steps-μ-loop : follow-steps-lts.MeasureT-loop
-follow-steps-μ-loop s labels next left known state n channel taken m₀ out₀ step₀ done₀ m out step done = n - done
+follow-steps-μ-loop s labels next left known state n channel taken m₀ out₀ step₀ held₀ message₀ done₀ m out step held message done = n - done
 
 pub +arrive+follow+follow-all+follow-label+follow-step+follow-steps-spec :
     {M : Type 1} → statement M
@@ -159,11 +160,15 @@ pub +arrive+follow+follow-all+follow-label+follow-step+follow-steps-spec :
     (λ c. search needs))
     (λ t. follow-step-lts.spec
     (led-after-reads.Asked, led-after-reads.Learnt, below 4 arrive-kinds.ps μ-arrive arrive.Pre t, arrive.Post)
-    (at 6 follow-step-kinds.ps μ-follow-step follow-step.Pre t)
+    (at 8 follow-step-kinds.ps μ-follow-step follow-step.Pre t)
     follow-step.Post
     (λ c κs. search needs)
     (λ c. search needs)
-    (λ c κs. search needs)
+    (λ c κs. let given = c .before .before .before .before .before .before .before .before .before .before .before .before .before .before .before .before .before .before .before .before .before .before .before .before .before .before .pre in (omega (arith, given .0), given .1))
+    (λ c. search needs)
+    (λ c. search needs)
+    (λ c. search needs)
+    (λ c. search needs)
     (λ c. search needs)
     (λ c. search needs)
     (λ c. search needs)
@@ -172,12 +177,14 @@ pub +arrive+follow+follow-all+follow-label+follow-step+follow-steps-spec :
     (λ c. search needs)
     (λ c. search needs))
     λ t. follow-steps-lts.spec
-    (before-reads.Asked, before-reads.Learnt, below 6 follow-step-kinds.ps μ-follow-step follow-step.Pre t, follow-step.Post)
+    (before-reads.Asked, before-reads.Learnt, below 8 follow-step-kinds.ps μ-follow-step follow-step.Pre t, follow-step.Post)
     (at 6 follow-steps-kinds.ps μ-follow-steps follow-steps.Pre t)
     follow-steps.Post
     follow-steps-Inv-loop
     follow-steps-μ-loop
     (λ c κs. search needs)
+    (λ c. search needs)
+    (λ c. search needs)
     (λ c. search needs)
     (λ c κs. search needs)
     (λ c. search needs)

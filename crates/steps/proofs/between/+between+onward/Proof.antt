@@ -18,23 +18,23 @@ use Rattle.steps.proofs.between.sender.Reads as sender-reads
 use Rattle.steps.proofs.between.+between+onward.{statement}
 use Rattle.steps.proofs.between.+between+onward.Tie.{close}
 
-abbrev μ-between : Measures 4 between-kinds.ps ℕ
-μ-between κs a = 2 * (13000 * (a .1 .1 .1 .1 .0 - a .1 .1 .0) + (13000 - a .1 .1 .1 .1 .1 .1 .0))
+abbrev μ-between : Measures 5 between-kinds.ps ℕ
+μ-between κs a = 2 * (37000 * (a .1 .1 .1 .1 .0 - a .1 .1 .0) + (37000 - a .1 .1 .1 .1 .1 .1 .0))
 
-abbrev μ-onward : Measures 4 onward-kinds.ps ℕ
-μ-onward κs a = 2 * (13000 * (a .1 .1 .1 .0 - a .1 .1 .1 .1 .1 .0 .at) + (13000 - a .1 .1 .1 .1 .1 .0 .done .mark)) + 1
+abbrev μ-onward : Measures 5 onward-kinds.ps ℕ
+μ-onward κs a = 2 * (37000 * (a .1 .1 .1 .0 - a .1 .1 .1 .1 .1 .0 .at) + (37000 - a .1 .1 .1 .1 .1 .0 .done .mark)) + 1
 
-abbrev between-at : ℕ → In 4 between-kinds.ps
-between-at t = and 4 between-kinds.ps (is 4 between-kinds.ps μ-between t) between.Pre
+abbrev between-at : ℕ → In 5 between-kinds.ps
+between-at t = and 5 between-kinds.ps (is 5 between-kinds.ps μ-between t) between.Pre
 
-abbrev between-below : ℕ → In 4 between-kinds.ps
-between-below t = and 4 between-kinds.ps (falls 4 between-kinds.ps _<_ μ-between t) between.Pre
+abbrev between-below : ℕ → In 5 between-kinds.ps
+between-below t = and 5 between-kinds.ps (falls 5 between-kinds.ps _<_ μ-between t) between.Pre
 
-abbrev onward-at : ℕ → In 4 onward-kinds.ps
-onward-at t = and 4 onward-kinds.ps (is 4 onward-kinds.ps μ-onward t) onward.Pre
+abbrev onward-at : ℕ → In 5 onward-kinds.ps
+onward-at t = and 5 onward-kinds.ps (is 5 onward-kinds.ps μ-onward t) onward.Pre
 
-abbrev onward-below : ℕ → In 4 onward-kinds.ps
-onward-below t = and 4 onward-kinds.ps (falls 4 onward-kinds.ps _<_ μ-onward t) onward.Pre
+abbrev onward-below : ℕ → In 5 onward-kinds.ps
+onward-below t = and 5 onward-kinds.ps (falls 5 onward-kinds.ps _<_ μ-onward t) onward.Pre
 
 pub +between+onward-spec : {M : Type 1} → statement M
 +between+onward-spec = close μ-between μ-onward (λ t. between-lts.spec (
@@ -48,16 +48,17 @@ pub +between+onward-spec : {M : Type 1} → statement M
     (λ c κs. search needs)
     (λ c κs. search needs)
     (λ c κs.
-    let start = c .before .before .before .before .before .before .before .before .before .before .before .before .before .before .before .before in
-    let checked = c .before .before .before .before .follows .ensures in
-    (ahead-falls checked (c .before .before .before .if1 .taken) (start .pre .1 .0) (start .pre .0), search needs))
+    let checked = c .before .before .before .before .before in
+    let start = checked .before .before .before .before .before .before .before .before .before .before .before .before .before in
+    (ahead-falls (checked .follows .ensures) (c .before .before .before .before .if1 .taken) (start .pre .1 .0) (start .pre .0), search needs))
     (λ c. search needs)
     (λ c. search needs)
     (λ c. search needs)
-    (λ c. (search (needs, to-ends), (search (needs, to-ends), (search needs, search (needs, betweens)))))
+    (λ c. search needs)
+    (λ c. (search (needs, to-ends), (search (needs, to-ends), (search needs, (search needs, search (needs, betweens))))))
     (λ c. search needs)
     (λ c. search needs)
-    (λ c. (search (needs, to-ends), (search (needs, to-ends), (search needs, search (needs, betweens))))))
+    (λ c. (search (needs, to-ends), (search (needs, to-ends), (search needs, (search needs, search (needs, betweens)))))))
     λ t. onward-lts.spec (
       pair-reads.Asked,
       pair-reads.Learnt,
@@ -71,23 +72,30 @@ pub +between+onward-spec : {M : Type 1} → statement M
     (λ c. search needs)
     (λ c. search needs)
     (λ c. search needs)
-    (λ c.
-    let paired = c .before .before .before .before .before .before .before .before .before .pair .ensures in
-    (search (needs, to-ends), (search (needs, to-ends), (search needs, onward-found (paired .1 .1 .1) (c .before .step .given .1)))))
-    (λ c. search needs)
-    (λ c. search needs)
     (λ c. search needs)
     (λ c.
-    let asked = c .before .before .before .before .before .before .before .before .before .before in
-    let paired = asked .before .before .before .before .before .before .before .before .pair .ensures in
-    let none = asked .enum-told .given .1 in
-    let later = c .before .before .before .before .before .before .between .ensures in (
+    let paired = c .before .before .before .before .before .before .before .before .before .before .before .pair .ensures in (
+      search (needs, to-ends),
+      (search (needs, to-ends), (search needs, (search needs, onward-found (paired .1 .1 .1 .1) (c .before .step .given .1)))),
+    ))
+    (λ c. search needs)
+    (λ c. search needs)
+    (λ c. search needs)
+    (λ c. search needs)
+    (λ c.
+    let later = c .before .before .before .before .before .before .before .before .between .ensures in
+    let asked = c .before .before .before .before .before .before .before .before .before .before .before .before .before in
+    let paired = asked .before .before .before .before .before .before .before .before .before .before .pair .ensures in (
       search (needs, to-ends),
       (
         search (needs, to-ends),
         (
           search needs,
-          onward-none (paired .1 .1 .1) none (paired .0) (paired .1 .0) (paired .1 .1 .0) (later .1 .1 .1),
+          (
+            search needs,
+            onward-none (paired .1 .1 .1 .1) (asked .enum-told .given .1) (paired .0) (paired .1 .0) (paired .1 .1 .0) (paired .1 .1 .1 .0)
+                (later .1 .1 .1 .1),
+          ),
         ),
       ),
     ))

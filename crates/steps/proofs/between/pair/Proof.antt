@@ -1,25 +1,24 @@
 -- `steps::between::pair` meets its contract. Assumes nothing.
-use mathlib.Core.Path.{refl}
 use borrow.Author.Needs.{needs}
 use Rattle.states.proofs.Laws.Progress.{to-ends}
-use Rattle.steps.proofs.Laws.BetweenOnward.{still-fits, pairs}
+use Rattle.steps.proofs.Laws.BetweenOnward.{pairs}
 use Rattle.steps.proofs.between.pair.Statement.{statement}
 use Rattle.steps.proofs.between.pair.Tie as tie
 
 pub pair-spec : {M : Type 1} → statement M
 pair-spec = tie.close (tie.spec
+    (λ c κs. search needs)
     (λ c. search needs)
     (λ c. search needs)
     (λ c. search needs)
     (λ c κs. search needs)
     (λ c. search needs)
-    (λ c. search needs)
-    (λ c. search (needs, still-fits))
-    (λ c κs. search needs)
     (λ c. search needs)
     (λ c. search needs)
     (λ c. search needs)
     (λ c.
-    let handed = c .before .before .before .before .before .before .before .before .before .before .before .before .hand .ensures in
-    let taken = c .before .before .before .before .take .ensures in
-    (search (needs, to-ends), (search (needs, to-ends), (search needs, pairs (handed .1 .1 .1) (handed .0) refl (handed .1 .0) (taken .1 .1))))))
+    let taken = c .before .before .before .before in
+    let handed = taken .before .before .before .before .before .before .before .before .before .hand .ensures in (
+      search (needs, to-ends),
+      (search (needs, to-ends), (search needs, (search needs, pairs (handed .1 .1 .1) (handed .0) (handed .1 .0) (taken .take .ensures .1 .1)))),
+    )))

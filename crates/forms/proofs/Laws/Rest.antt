@@ -1,0 +1,159 @@
+-- What follows a thread is settled ("Steps"). Assumes nothing.
+use mathlib.Core.Path.{_≡_, refl, sym, _∙_}
+use mathlib.Core.List.{List, [], _∷_}
+use Prim.Native.Nat.{ℕ, suc, _+_, _-_, _≤_, _<_}
+use native.Mathlib.Omega.{arith}
+use lib.ListN.{length, getD, length-append}
+use Rattle.meaning.specs.Messages.Term.{Message}
+use Rattle.meaning.specs.Bytes.Process.{output, input, Process}
+use Rattle.meaning.specs.Steps.State.{_▸_, Thread, act, repl}
+use Rattle.nodes.specs.Buffer.{Within}
+use Rattle.terms.specs.Bound.{BindsRun}
+use Rattle.terms.proofs.Theorems.{boundFurther}
+use Rattle.states.specs.Record.{Placed, processOf, boundOf}
+use Rattle.states.specs.Course.{Going}
+use Rattle.states.specs.Shown.{Shows, ShowsCourse}
+use Rattle.states.specs.Progress.{Stopped}
+use Rattle.states.specs.Stored.{Loads}
+use Rattle.states.specs.declared.stored.Loaded.{Loaded}
+use Rattle.states.specs.declared.progress.Progress.{Progress}
+use Rattle.states.proofs.Laws.Process.{process-kind, shaped, after-output, after-input}
+use Rattle.threads.specs.Thread as thread
+use Rattle.threads.specs.declared.task.Task.the-variants.{Settle}
+use Rattle.walks.specs.Walking.{go}
+use Rattle.walks.specs.Walk.{Ready, Walks}
+use Rattle.walks.proofs.Laws.Fits.{fits-none}
+use Rattle.forms.specs.Visit.{Labelled, RecordAt}
+use Rattle.forms.specs.Rest.{settledBehind, SettlesBehind, TakesBehind, Rests}
+use Rattle.forms.proofs.Laws.Visit.{news-short, bound-short}
+
+-- Nil follows, or a process that is walked over.
+module _ {s label m out : List ℕ} {at end i : ℕ} {now : Progress} (rests : thread.Rests s at i) where
+  pub nil-follows : {kind : ℕ} → kind ≡ getD s i 0 → kind ≡ 0 → SettlesBehind s label at m end out now now out
+  unfolding go
+  nil-follows e z = record {
+    exact = λ p P x ρ g q y d.
+        let is-nil : P ≡ Process.nil = shaped 0 P (y .process) (rw (rests .exact p P q) at (sym e ∙ z)) in
+        rw is-nil d;
+  }
+
+  pub settled-behind : {r : Progress} {after : List ℕ} → Walks s label i 63 m end Settle out now r after
+      → SettlesBehind s label at m end out now r after
+  settled-behind w = record { exact = λ p P x ρ g q y d. (rw (rests .exact p P q) at w) .walks .exact P x ρ g y d }
+
+pub ruleset settlings = (nil-follows, settled-behind)
+
+-- Behind an input the message of the label is bound too.
+module _ {s label m out : List ℕ} {at end : ℕ} {now r : Progress} where
+  pub label-long : 510 < length label → TakesBehind s label at m end out now r out
+  label-long h = record { exact = λ C P x ρ g y d. absurd (omega (arith, y .small)) }
+
+  pub no-room : length m - end < 512 → TakesBehind s label at m end out now r out
+  no-room h = record { exact = λ C P x ρ g y d. absurd (omega (arith, y .room)) }
+
+  pub taken-behind : {m₁ after : List ℕ} {last high : ℕ} → SettlesBehind s label at m₁ last out now r after → BindsRun label m end last m₁
+      → Within end high m m₁ → last ≡ end + 2 + length label → TakesBehind s label at m end out now r after
+  taken-behind {m₁} {last = last} f b k l = record {
+    exact = λ C P x ρ g y d.
+        let longer : length (ρ ▸ x) ≡ suc (length ρ) = omega (arith, length-append ρ (x ∷ [])) in
+        f .exact (input C) P x (ρ ▸ x) g (y .process .stands) (record {
+          next = y .next;
+          process = rw (← longer) at (after-input C P (y .process));
+          shallow = omega arith;
+          short = y .short;
+          labelled = y .labelled;
+          small = y .small;
+          normal = y .normal;
+          bound = boundFurther m m₁ 0 end last ρ x (y .bound) (y .normal) (omega (arith, y .process .few)) (b .exact x (y .labelled));
+          room = omega (arith, y .room, y .small, k .long);
+          fits = fits-none Settle (g .names) P refl (omega (arith, y .fits .own));
+          meant = tt;
+        }) d;
+  }
+
+pub ruleset takings = (label-long, no-room, taken-behind)
+
+-- The thread is loaded, and it acts by itself or is a repl thread.
+module _ {s label m m₁ out : List ℕ} {at : ℕ} {l : Loaded} (loads : Loads out at l m₁) (w : Within 0 (l .end) m m₁) where
+  loaded : (t : Placed) (x : Message) (g : Going) {next : ℕ} → RecordAt s out at t next → Labelled label x → length s ≤ 36864
+      → 10750 ≤ length m → g .names ≤ 28664
+      → (l .place ≡ t .place) × Ready s label (l .place) 64 m₁ (l .end) Settle (processOf (t .thread)) x (boundOf (t .thread)) g
+  loaded t x g h i short room names =
+      let ρ = boundOf (t .thread) in
+      let P = processOf (t .thread) in
+      let size = bound-short t h in
+      let p = h .standing .process in
+      let few = p .few in
+      let (place, next, stands) = loads .exact t (h .stands) (h .standing .fits) (omega arith) (omega (arith, w .long)) in (
+        place,
+        record {
+          next = h .standing .next;
+          process = rw place p;
+          shallow = omega arith;
+          short = short;
+          labelled = i .same;
+          small = i .small;
+          normal = i .normal;
+          bound = record { stands = stands; few = omega arith; normal = h .standing .normal };
+          room = omega (arith, w .long, stands .size);
+          fits = fits-none Settle (g .names) P refl (omega (arith, news-short P, p .stands .size, p .inside));
+          meant = tt;
+        },
+      )
+
+  module _ {now r : Progress} {after : List ℕ} where
+    -- What is to be shown of each kind of thread.
+    of-thread : ((u : Thread) (x : Message) (g : Going) → Ready s label (l .place) 64 m₁ (l .end) Settle (processOf u) x (boundOf u) g
+        → Shows s out now g → ShowsCourse s after r (settledBehind u (l .place) x g)) → Rests s label at m out now r after
+    of-thread f = record {
+      exact = λ t x g h i short room names d.
+          let (place, y) = loaded t x g h i short room names in
+          rw (← place) (f (t .thread) x g y d);
+    }
+
+    pub rest-nowhere : length s ≤ l .place → Rests s label at m out now r after
+    rest-nowhere n = of-thread (λ u x g y d. absurd (omega (arith, process-kind (processOf u) (y .process) .1)))
+
+    module _ {kind : ℕ} (e : kind ≡ getD s (l .place) 0) where
+      pub rest-repl : kind ≡ 7 → Stopped now r → Rests s label at m out now r after
+      rest-repl z o = of-thread of
+        where
+          of : (u : Thread) (x : Message) (g : Going) → Ready s label (l .place) 64 m₁ (l .end) Settle (processOf u) x (boundOf u) g
+              → Shows s out now g → ShowsCourse s after r (settledBehind u (l .place) x g)
+          of (act ρ (output C M) P) x g y d = absurd (omega (arith, e, process-kind (Process.act (output C M) P) (y .process) .0))
+          of (act ρ (input C) P) x g y d = absurd (omega (arith, e, process-kind (Process.act (input C) P) (y .process) .0))
+          of (repl ρ P) x g y d = o .over
+
+      pub rest-input : kind ≡ 3 → TakesBehind s label (l .place) m₁ (l .end) out now r after → Rests s label at m out now r after
+      rest-input z f = of-thread of
+        where
+          of : (u : Thread) (x : Message) (g : Going) → Ready s label (l .place) 64 m₁ (l .end) Settle (processOf u) x (boundOf u) g
+              → Shows s out now g → ShowsCourse s after r (settledBehind u (l .place) x g)
+          of (act ρ (output C M) P) x g y d = absurd (omega (arith, e, process-kind (Process.act (output C M) P) (y .process) .0))
+          of (act ρ (input C) P) x g y d = f .exact C P x ρ g y d
+          of (repl ρ P) x g y d = absurd (omega (arith, e, process-kind (Process.repl P) (y .process) .0))
+
+      pub rest-output : (kind ≡ 7 → ⊥) → (kind ≡ 3 → ⊥) → SettlesBehind s label (l .place) m₁ (l .end) out now r after
+          → Rests s label at m out now r after
+      rest-output n z f = of-thread of
+        where
+          of : (u : Thread) (x : Message) (g : Going) → Ready s label (l .place) 64 m₁ (l .end) Settle (processOf u) x (boundOf u) g
+              → Shows s out now g → ShowsCourse s after r (settledBehind u (l .place) x g)
+          of (act ρ (output C M) P) x g y d =
+              f .exact (output C M) P x ρ g (y .process .stands) (record {
+                next = y .next;
+                process = after-output C M P (y .process);
+                shallow = omega arith;
+                short = y .short;
+                labelled = y .labelled;
+                small = y .small;
+                normal = y .normal;
+                bound = y .bound;
+                room = omega (arith, y .room);
+                fits = fits-none Settle (g .names) P refl (omega (arith, y .fits .own));
+                meant = tt;
+              }) d
+          of (act ρ (input C) P) x g y d = absurd (z (e ∙ process-kind (Process.act (input C) P) (y .process) .0))
+          of (repl ρ P) x g y d = absurd (n (e ∙ process-kind (Process.repl P) (y .process) .0))
+
+pub ruleset rests = (rest-nowhere, rest-repl, rest-input, rest-output)

@@ -1,0 +1,20 @@
+-- `forms::rest::receive` meets its contract. Assumes nothing.
+use borrow.Author.Needs.{needs}
+use Rattle.nodes.proofs.Laws.Buffer.{unchanged}
+use Rattle.states.proofs.Laws.Progress.{extensions, to-ends, to-end-bound}
+use Rattle.forms.proofs.Laws.Rest.{takings}
+use Rattle.forms.proofs.rest.receive.Statement.{statement}
+use Rattle.forms.proofs.rest.receive.Tie as tie
+
+pub receive-spec : {M : Type 1} → statement M
+receive-spec = tie.close (tie.spec
+    (λ c κs. search needs)
+    (λ c. (search (needs, extensions), (search (needs, unchanged, to-ends), (search (needs, unchanged, to-ends), search (needs, takings)))))
+    (λ c. search needs)
+    (λ c κs. search needs)
+    (λ c. (search (needs, extensions), (search (needs, unchanged, to-ends), (search (needs, unchanged, to-ends), search (needs, takings)))))
+    (λ c κs. search needs)
+    (λ c κs. search needs)
+    (λ c. search needs)
+    (λ c. search needs)
+    (λ c. (search (needs, extensions), (search (needs, to-ends, to-end-bound), (search (needs, to-ends), search (needs, takings))))))

@@ -1,0 +1,29 @@
+-- `forms::rest::rest` meets its contract. Assumes nothing.
+use borrow.Author.Needs.{needs}
+use Rattle.nodes.proofs.Laws.Buffer.{unchanged}
+use Rattle.states.proofs.Laws.Progress.{extensions, to-ends}
+use Rattle.forms.proofs.Laws.Rest.{rests}
+use Rattle.forms.proofs.rest.rest.Statement.{statement}
+use Rattle.forms.proofs.rest.rest.Tie as tie
+
+pub rest-spec : {M : Type 1} → statement M
+rest-spec = tie.close (tie.spec
+    (λ c κs. search needs)
+    (λ c κs. search needs)
+    (λ c. search needs)
+    (λ c. search needs)
+    (λ c. (search (needs, extensions), (search (needs, to-ends), (search (needs, unchanged, to-ends), search (needs, rests)))))
+    (λ c. search needs)
+    (λ c κs. search needs)
+    (λ c κs. search needs)
+    (λ c. search needs)
+    (λ c. search needs)
+    (λ c. (search (needs, extensions), (search (needs, to-ends), (search (needs, unchanged, to-ends), search (needs, rests)))))
+    (λ c κs. search needs)
+    (λ c. search needs)
+    (λ c. search needs)
+    (λ c. (search (needs, extensions), (search (needs, to-ends), (search (needs, to-ends), search (needs, rests)))))
+    (λ c κs. search needs)
+    (λ c. search needs)
+    (λ c. search needs)
+    (λ c. (search (needs, extensions), (search (needs, to-ends), (search (needs, to-ends), search (needs, rests))))))

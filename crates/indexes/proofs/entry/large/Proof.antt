@@ -1,0 +1,13 @@
+-- `indexes::entry::large` meets its contract. Assumes nothing.
+use borrow.Author.Needs.{needs}
+use Rattle.indexes.proofs.Laws.Entry.{sizes}
+use Rattle.indexes.proofs.entry.large.Statement.{statement}
+use Rattle.indexes.proofs.entry.large.Tie as tie
+
+pub large-spec : {M : Type 1} → statement M
+large-spec = tie.close (tie.spec
+    (λ c. search (needs, sizes))
+    (λ c. search (needs, sizes))
+    (λ c. search (needs, sizes))
+    (λ c. search (needs, sizes))
+    (λ c. search (needs, sizes)))

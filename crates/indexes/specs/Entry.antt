@@ -1,0 +1,100 @@
+-- What the index says of a process: where it ends, the last output and the last input that it offers at once, and how many private names it
+-- takes if no message decides that ("Bytes"; "Steps"). Assumes nothing.
+use mathlib.Core.Path.{_≡_}
+use mathlib.Core.Bool.{Bool, true, false}
+use mathlib.Core.List.{List, [], _∷_}
+use Prim.Native.Nat.{ℕ, zero, suc, _+_, _-_, _≤_}
+use lib.ListN.{length, getD}
+use Rattle.meaning.specs.Bytes.Process.{output, input, Process, nil, new, act, if, let-in, par, repl}
+use Rattle.meaning.specs.Bytes.Encoding.{encodeTerm, encodeProcess}
+use Rattle.indexes.specs.declared.entry.Entry.{Entry}
+
+-- The later one of two positions: the second one, and what the first one is more.
+abbrev pub latest : (a b : ℕ) → ℕ
+latest a b = a - b + b
+
+-- The position after the kind of the last output that a process offers at once which stands at a position, or of the last input: in
+-- whatever branch, and in copies too. It is 0 if there is none.
+unfoldable pub lastOf : (out : Bool) → (at : ℕ) → Process → ℕ
+lastOf out at nil = 0
+lastOf out at (new P) = lastOf out (at + 1) P
+lastOf out at (act (output C M) P) = elim out [ true ↦ at + 1 | false ↦ 0 ]
+lastOf out at (act (input C) P) = elim out [ true ↦ 0 | false ↦ at + 1 ]
+lastOf out at (if M N P Q) =
+    latest (lastOf out (at + 1 + length (encodeTerm M) + length (encodeTerm N)) P)
+    (lastOf out (at + 1 + length (encodeTerm M) + length (encodeTerm N) + length (encodeProcess P)) Q)
+lastOf out at (let-in M P) = lastOf out (at + 1 + length (encodeTerm M)) P
+lastOf out at (par P Q) = latest (lastOf out (at + 1) P) (lastOf out (at + 1 + length (encodeProcess P)) Q)
+lastOf out at (repl P) = lastOf out (at + 1) P
+
+-- Names of two processes together, each given with one more; 0 if either is open.
+abbrev pub together : (a b : ℕ) → ℕ
+together zero b = 0
+together (suc a) zero = 0
+together (suc a) (suc b) = suc (a + b)
+
+-- How many private names settling a process takes, and one more; 0 if it is open, since an `if` or a `let` is met first.
+unfoldable pub fixedNames : Process → ℕ
+fixedNames nil = 1
+fixedNames (new P) = together 2 (fixedNames P)
+fixedNames (act p P) = 1
+fixedNames (if M N P Q) = 0
+fixedNames (let-in M P) = 0
+fixedNames (par P Q) = together (fixedNames P) (fixedNames Q)
+fixedNames (repl P) = 1
+
+abbrev pub entry : (end output input names : ℕ) → Entry
+entry e o i n = record { end = e; output = o; input = i; names = n }
+
+-- The entry of a process that stands at a position.
+abbrev pub entryOf : (at : ℕ) → Process → Entry
+entryOf at P = entry (at + length (encodeProcess P)) (lastOf true at P) (lastOf false at P) (fixedNames P)
+
+-- The entry of processes in a row.
+abbrev pub joined : (e f : Entry) → Entry
+joined e f = entry (f .end) (latest (e .output) (f .output)) (latest (e .input) (f .input)) (together (e .names) (f .names))
+
+abbrev pub rowOf : (at : ℕ) → List Process → Entry
+rowOf at [] = entry at 0 0 1
+rowOf at (P ∷ []) = entryOf at P
+rowOf at (P ∷ Q ∷ Ps) = joined (entryOf at P) (rowOf (at + length (encodeProcess P)) (Q ∷ Ps))
+
+-- The entry of a node at a position, from the one of its parts, by its kind: nil, new, output, input, if, let, par, repl.
+abbrev pub named : Entry → (names : ℕ) → Entry
+named e n = entry (e .end) (e .output) (e .input) n
+
+abbrev pub nodeEntries : (at : ℕ) → Entry → List Entry
+nodeEntries at e =
+    e
+    ∷ named e (together 2 (e .names))
+    ∷ entry (e .end) (at + 1) 0 1
+    ∷ entry (e .end) 0 (at + 1) 1
+    ∷ named e 0
+    ∷ named e 0
+    ∷ e
+    ∷ named e 1
+    ∷ []
+
+abbrev pub nodeOf : (kind at : ℕ) → Entry → Entry
+nodeOf kind at e = getD (nodeEntries at e) kind e
+
+-- The numbers of an entry are those of a position of the model, or few.
+pub record Small (e : Entry) : Type 0 where
+  pub end : e .end ≤ 4096
+  pub output : e .output ≤ 4096
+  pub input : e .input ≤ 4096
+  pub names : e .names ≤ 4096
+
+pub record IsLarge (e : Entry) (r : Bool) : Type 0 where
+  pub yes : r ≡ true → Small e → ⊥
+  pub no : r ≡ false → Small e
+
+-- If they are, the answer is the names of two processes together, the entry of two in a row, and the one of a node.
+pub record Together (a b r : ℕ) : Type 0 where
+  pub exact : a ≤ 4096 → b ≤ 4096 → r ≡ together a b
+
+pub record Joins (e f r : Entry) : Type 0 where
+  pub exact : Small e → Small f → r ≡ joined e f
+
+pub record IsNode (kind at : ℕ) (e r : Entry) : Type 0 where
+  pub exact : Small e → r ≡ nodeOf kind at e

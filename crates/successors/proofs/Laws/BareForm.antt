@@ -1,0 +1,170 @@
+-- There is room for what follows the threads that act, so the state is within its limits; without its threads it is formed ("Judging and its
+-- count"). Assumes nothing.
+use mathlib.Core.Path.{_≡_, refl, sym, ap, _∙_}
+use mathlib.Core.Bool.{Bool, true, false, not, true≢false}
+use mathlib.Core.List.{List, [], _∷_, _++_}
+use Prim.Native.Nat.{ℕ, _+_, _-_, _≤_}
+use native.Mathlib.Omega.{arith}
+use borrow.Author.Tests.{le-ltb}
+use lib.ListN.{length}
+use Rattle.meaning.specs.Messages.Term.{Message, nodes}
+use Rattle.meaning.specs.Places.{none}
+use Rattle.meaning.specs.Steps.State.{Bound, _▸_, State}
+use Rattle.meaning.specs.Judging.Limits.{boundNodes, threadNodes}
+use Rattle.meaning.proofs.Every.{every-split}
+use Rattle.nodes.specs.Buffer.{Within}
+use Rattle.nodes.proofs.Theorems.{runLength}
+use Rattle.states.specs.Course.{Going, Course, going, over-limit, found}
+use Rattle.states.specs.Shown.{Shows, ShowsCourse}
+use Rattle.states.specs.declared.state.State as code
+use Rattle.states.specs.declared.progress.Progress.{Progress}
+use Rattle.walks.specs.Settled.{threadsOf}
+use Rattle.forms.specs.Form.{StateAt, stateOf, overArrival, Finishes}
+use Rattle.forms.specs.declared.form.Formed.{Formed}
+use Rattle.forms.specs.declared.form.Formed.the-variants.{At, OverLimit}
+use Rattle.positions.proofs.Laws.Copies.{split-at}
+use Rattle.moves.specs.Spot.{Spot}
+use Rattle.moves.specs.Moves.{Move, alone, inside, between}
+use Rattle.moves.specs.Outcome.{outcome, arrivalOf}
+use Rattle.moves.specs.Limits.{restOver}
+use Rattle.moves.specs.Threads.{Judged}
+use Rattle.moves.specs.Step.{stepOf}
+use Rattle.moves.specs.Held.{Held}
+use Rattle.moves.specs.Moving.{carried, Moving}
+use Rattle.moves.specs.declared.step.Step as step
+use Rattle.moves.proofs.Laws.Limits.{limitsJudged}
+use Rattle.moves.proofs.Laws.MovesSpots.{Stands}
+use Rattle.rests.proofs.Laws.RestsMoves.{Stood, moves-stood}
+use Rattle.alias_lists.specs.Aliases.{appended, Begun, Carries}
+use Rattle.successors.specs.Tasks.{sends}
+use Rattle.successors.specs.Bare.{bareOf, restsOf, Settles, Fits, FormsBare}
+use Rattle.successors.proofs.Laws.Lead.{every-move, aliases-after}
+use Rattle.successors.proofs.Laws.Leads.{held-kept}
+use Rattle.successors.proofs.Laws.Light.{nodesOf}
+use Rattle.successors.proofs.Laws.LightMove.{Light, light-alone, light-between}
+
+-- Room, or none that is known.
+module _ {st : code.State} {r : Progress} {size : ℕ} where
+  pub fits-not : Fits st r size false
+  fits-not = record { room = λ e. absurd (true≢false (sym e)) }
+
+  pub fits-so : {b : Bool} → not (r .going) ≡ false → r .names ≤ 128 → st .threads ≤ 32 → r .state .threads ≤ 32 - st .threads → st .nodes ≤ 1024
+      → r .state .nodes ≤ 1024 - st .nodes → (b ≡ true → size ≤ 1024 - st .nodes - r .state .nodes) → Fits st r size b
+  fits-so on names l threads k nodes left = record {
+    room = λ e. record { on = goes (r .going) on; threads = omega arith; nodes = omega (arith, left e); names = names };
+  }
+    where
+      goes : (b : Bool) → not b ≡ false → b ≡ true
+      goes true e = refl
+      goes false e = absurd (true≢false e)
+
+-- A walk that goes on shows what it has come to.
+on-going : {s out : List ℕ} {r : Progress} (c : Course) → ShowsCourse s out r c → r .going ≡ true → (g : Going) × (c ≡ going g) × Shows s out r g
+on-going (going g) d on = (g, refl, d)
+on-going over-limit d on = absurd (true≢false (sym on ∙ d .off))
+on-going (found x n ms) d on = absurd (true≢false (sym on ∙ d .off))
+
+-- One message more has its nodes more.
+nodes-more : (ρ : Bound) (y : Message) → boundNodes (ρ ▸ y) ≡ boundNodes ρ + nodes y
+unfolding boundNodes
+nodes-more [] y = omega arith
+nodes-more (m ∷ ρ) y = omega (arith, nodes-more ρ y)
+
+appended-nodes : (b : Bool) (ρ : Bound) (y : Message) → boundNodes (appended b ρ y) ≤ boundNodes ρ + nodes y
+appended-nodes true ρ y = omega (arith, nodes-more ρ y)
+appended-nodes false ρ y = omega arith
+
+module _ {s out : List ℕ} {st : code.State} {v : step.Step} {message : List ℕ} (S : State) (h : Held s out st S) (x : Message) (w : Move)
+    (moving : Moving s out st S h v x w message) where
+  judged-at : (p : Spot) → Stands (h .at .placed) p → Judged (S .next) (p .thread)
+  judged-at p stands = every-split (split-at (p .before) (stands .parts)) (h .judged) .1
+
+  -- What follows the threads of the step makes it no heavier than this.
+  weighed : (g : Going) → restsOf (carried x w) w ≡ going g → Light (h .at .placed) (outcome (h .at .placed) (S .next) x w) (restOver x w) g
+  unfolding restsOf
+  weighed g e =
+      of w (every-split (split-at (moving .earlier) (moving .listed)) (moves-stood _ (h .at .placed) (v .label) (moving .channel)) .1) g e
+    where
+      of : (u : Move) → Stood (S .next) (h .at .placed) u → (g : Going) → restsOf (carried x u) u ≡ going g
+          → Light (h .at .placed) (outcome (h .at .placed) (S .next) x u) (restOver x u) g
+      of (alone p a) (stands, among) g e = light-alone (h .at .placed) (S .next) x (moving .stored) p a stands among (judged-at p stands) g e
+      of (inside p j) stood g e = absurd (let z : _≡_ {A = ℕ} 0 1 = cc in omega arith)
+      of (between p q u) sh g e =
+          light-between (h .at .placed) (S .next) x p q u (sh .sender) (sh .taker) (sh .sends) (sh .takes) (judged-at p (sh .sending))
+          (judged-at q (sh .taking)) g e
+
+  aliases-weigh : boundNodes (S .aliases ++ outcome (h .at .placed) (S .next) x w .alias) ≤ boundNodes (S .aliases) + length message
+  aliases-weigh =
+      let y = carried x w in
+      let all = aliases-after (h .at .placed) (S .next) (st .start) x (S .aliases) w in
+      omega (
+        arith,
+        ap boundNodes all,
+        appended-nodes (sends (stepOf (st .start) w .label)) (S .aliases) y,
+        runLength y,
+        ap length (moving .labelled .same),
+      )
+
+  within-limits : (g : Going) → restsOf (carried x w) w ≡ going g → st .threads + length (g .threads) ≤ 32
+      → st .nodes + g .nodes + length message ≤ 1024 → g .names ≤ 128
+      → overArrival (arrivalOf S (outcome (h .at .placed) (S .next) x w)) ≡ false
+  within-limits g e few light names =
+      let o = outcome (h .at .placed) (S .next) x w in
+      let l = weighed g e in
+      let limits = every-move (S .next) (h .at .placed) (limitsJudged (h .at .placed) S x (h .judged) (moving .stored)) (v .label)
+      (moving .channel) (moving .earlier) (moving .others) w (moving .listed) in
+      let total = threadNodes (threadsOf (o .threads)) + boundNodes (S .aliases ++ o .alias) in
+      let own : nodesOf (h .at .placed) ≡ threadNodes (S .threads) = ap threadNodes (h .at .threads) in
+      let threads = le-ltb 32 (length (o .threads)) (omega (arith, l .few, h .at .many)) in
+      let nodes = le-ltb 1024 total (omega (arith, l .light, own, h .at .nodes, aliases-weigh)) in
+      let next = le-ltb 128 (o .next) (omega (arith, l .next)) in
+      limits ∙ rw (l .free, threads, nodes, next)
+
+-- So it is formed without its threads, or left open.
+module _ {s message m out after : List ℕ} {st : code.State} {v : step.Step} where
+  pub forms-not : FormsBare s st v message m out OverLimit after
+  forms-not = record { exact = λ S h x w moving leading bare e. absurd (let z : _≡_ {A = ℕ} 0 1 = cc in omega arith) }
+
+  pub forms-bare : {mid : List ℕ} {ok q : Bool} {rests b : Progress} {f : Formed} {high : ℕ} → Settles s st v message m out rests mid
+      → Fits st rests (length message) ok → ok ≡ true → Within (st .end) high out mid
+      → Carries st message q (rests .names) mid b after → q ≡ sends (v .label) → Finishes b f → FormsBare s st v message m out f after
+  unfolding threadNodes held-kept
+  forms-bare {q = q} {rests} {b} settles fits so within carries e finishes = record {
+    exact = λ S h x w moving leading bare is.
+        let room = fits .room so in
+        let o = outcome (h .at .placed) (S .next) x w in
+        let (g, course, shows) = on-going (restsOf (carried x w) w) (settles .exact S h x w moving leading) (room .on) in
+        let names : g .names ≡ rests .names = sym (shows .names) in
+        let light = aliases-weigh S h x w moving in
+        let free = within-limits S h x w moving g course (omega (arith, room .threads, shows .threads)) (omega (arith, room .nodes, shows .nodes))
+        (omega (arith, names, room .names)) in
+        let next : rests .names ≡ o .next = sym names ∙ sym (weighed S h x w moving g course .next) in
+        let there = held-kept within h in
+        let all : appended q (S .aliases) (carried x w) ≡ S .aliases ++ o .alias =
+        ap (λ c. appended c (S .aliases) (carried x w)) (e ∙ ap (λ u. sends (u .label)) (moving .same))
+        ∙ aliases-after (h .at .placed) (S .next) (st .start) x (S .aliases) w in
+        let few : boundNodes (S .aliases ++ o .alias) ≤ 1024 = omega (arith, light, room .nodes, h .at .nodes) in
+        let begun : Begun s (st .end) (S .aliases ++ o .alias) (rests .names) b after =
+        rw all at (carries .exact s (S .aliases) (carried x w) (there .at .aliases) (omega (arith, h .at .records .size)) (leading .few)
+        (moving .labelled) (omega (arith, leading .room, within .long)) .1 (omega (arith, ap boundNodes all))) in
+        let d = begun .shows in
+        let state : bare ≡ stateOf b = of-at (sym is ∙ finishes .state (d .on) (omega (arith, d .names, room .names))) in
+        let stands : StateAt s after (stateOf b) (bareOf (arrivalOf S o) .state) =
+        record {
+          aliases = rw (begun .aliases) (begun .bound);
+          placed = [];
+          threads = refl;
+          records = d .records;
+          standing = none;
+          many = d .threads;
+          nodes = omega (arith, d .nodes);
+          names = d .names ∙ next;
+          size = omega (arith, d .size, d .threads, d .nodes);
+        } in
+        (free, rw state stands, rw state (begun .aliases));
+  }
+    where
+      of-at : {a c : code.State} → At a ≡ At c → a ≡ c
+      of-at k = cc
+
+pub ruleset bares = (forms-not, forms-bare)

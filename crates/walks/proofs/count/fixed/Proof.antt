@@ -1,0 +1,13 @@
+-- `walks::count::fixed` meets its contract. Assumes nothing.
+use borrow.Author.Needs.{needs}
+use Rattle.walks.proofs.Laws.Fixed.{fixed-ones}
+use Rattle.walks.proofs.count.fixed.Statement.{statement}
+use Rattle.walks.proofs.count.fixed.Tie as tie
+
+pub fixed-spec : {M : Type 1} → statement M
+fixed-spec = tie.close (tie.spec
+    (λ c. search (needs, fixed-ones))
+    (λ c κs. search needs)
+    (λ c. search (needs, fixed-ones))
+    (λ c. search needs)
+    (λ c. search (needs, fixed-ones)))
