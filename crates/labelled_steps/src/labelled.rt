@@ -39,7 +39,7 @@ fn handed(out: &[u8], at: usize, done: Progress, message: &mut [u8]) -> Next
         return Next::None;
     }
     let mid = from + 2 * run::size(&out[from..long]);
-    let size = hand::one(out, mid, message);
+    let size = hand::until(out, mid, done.state.end, message);
     Next::Found(Step {
         label: Label::Output,
         mode: 0,

@@ -13,6 +13,10 @@ pub record Copies (out : List ℕ) (from r : ℕ) (to : List ℕ) : Type 0 where
   pub exact : (x : Message) {end : ℕ} → Stands out from (encodeMessage x) end → length (encodeMessage x) ≤ length to
       → Stands to 0 (encodeMessage x) r
 
+-- The same of one that ends at a position.
+pub record CopiesTo (out : List ℕ) (from end r : ℕ) (to : List ℕ) : Type 0 where
+  pub exact : (x : Message) → Stands out from (encodeMessage x) end → length (encodeMessage x) ≤ length to → Stands to 0 (encodeMessage x) r
+
 -- Two messages that stand one after the other stand at the fronts of two slices.
 pub record Hands (out : List ℕ) (from : ℕ) (r : Handed) (channel message : List ℕ) : Type 0 where
   pub exact : (x y : Message) {end : ℕ} → Stands out from (encodeMessages (x ∷ y ∷ [])) end → length (encodeMessage x) ≤ length channel

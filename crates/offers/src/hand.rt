@@ -4,7 +4,7 @@ use states::stored;
 ghost use mathlib.Core.Path.{_≡_};
 ghost use lib.ListN.{length};
 ghost use Prim.Native.Nat.{_+_, _≤_};
-ghost use Rattle.offers.specs.Hand.{Copies, Hands};
+ghost use Rattle.offers.specs.Hand.{Copies, CopiesTo, Hands};
 
 // How many bytes each of them takes.
 pub struct Handed {
@@ -48,5 +48,25 @@ pub fn one(out: &[u8], from: usize, to: &mut [u8]) -> usize
         return 0;
     }
     stored::fetch(&out[from..from + size], to);
+    size
+}
+
+// Copies the message that stands from a position to another to the front of a slice, and answers how many bytes it takes.
+pub fn until(out: &[u8], from: usize, end: usize, to: &mut [u8]) -> usize
+    ensures { λ r. ⌜ r ≤ length (now (to .entry)) ⌝ }
+    ensures { λ _. ⌜ length (now (to .exit)) ≡ length (now (to .entry)) ⌝ }
+    ensures { λ r. ⌜ CopiesTo (now (out .entry)) from end r (now (to .exit)) ⌝ }
+{
+    if end < from {
+        return 0;
+    }
+    if out.len() < end {
+        return 0;
+    }
+    let size = end - from;
+    if to.len() < size {
+        return 0;
+    }
+    stored::fetch(&out[from..end], to);
     size
 }

@@ -31,7 +31,7 @@ use Rattle.moves.specs.Step.{stepOf, runOf, Shown}
 use Rattle.offers.specs.Seek.{Sees, ShowsSight, Seeks}
 use Rattle.labelled_steps.specs.Labelled.{labelledFrom, Follows, NextLabelled, outputStep, inputStep, HandsOver}
 use Rattle.offers.specs.declared.seek.Sighting.{Sighting}
-use Rattle.offers.specs.Hand.{Copies}
+use Rattle.offers.specs.Hand.{CopiesTo}
 use Rattle.moves.specs.declared.step.Step.{Step}
 use Rattle.moves.specs.declared.step.Label.the-variants.{Output, Input, Silent}
 use Rattle.moves.specs.declared.step.Next.{Next}
@@ -53,15 +53,18 @@ module _ (out : List ℕ) (at : ℕ) (now : Progress) {message : List ℕ} where
 
   -- The message stands behind the channel.
   pub handed-over : {n size : ℕ} {after : List ℕ} → SizeOf (take (length out - now .sent) (drop (now .sent) out)) n
-      → Copies out (now .sent + 2 * n) size after → length after ≡ length message
+      → CopiesTo out (now .sent + 2 * n) (now .state .end) size after → length after ≡ length message
       → HandsOver out at now message (Found (outputStep at now size)) after
   unfolding encodeMessages
   handed-over {n} {size} w c same = record {
     exact = λ x y p l.
         let (mid, a, rest) = parts (encodeMessage x) (encodeMessages (y ∷ []) ∷ []) p in
         let (last, b, e) = parts (encodeMessage y) ([] ∷ []) rest in
+        let ends : last ≡ now .state .end = omega (arith, e .size) in
         let here : mid ≡ now .sent + 2 * n = omega (arith, a .size, size-of out w x a) in
-        let there = c .exact y (subst (λ (i : ℕ). Stands out i (encodeMessage y) last) here b) (omega arith) in
+        let there = c .exact y
+        (subst (λ (i : ℕ). Stands out (now .sent + 2 * n) (encodeMessage y) i) ends (subst (λ (i : ℕ). Stands out i (encodeMessage y) last) here b))
+        (omega arith) in
         let long : size ≡ length (encodeMessage y) = omega (arith, there .size) in
         (ap (λ (k : ℕ). Found (outputStep at now k)) long, rw long at there);
   }

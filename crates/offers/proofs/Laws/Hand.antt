@@ -14,7 +14,7 @@ use Rattle.nodes.proofs.Laws.Buffer.{lent, part}
 use Rattle.nodes.proofs.Laws.Walk.{some-node}
 use Rattle.states.specs.Stored.{Fetched}
 use Rattle.states.specs.Shown.{encodeMessages}
-use Rattle.offers.specs.Hand.{Copies, Hands}
+use Rattle.offers.specs.Hand.{Copies, CopiesTo, Hands}
 use Rattle.moves.proofs.Laws.Threads.{stands-ends}
 
 pub copies-none : {out to : List ℕ} {from : ℕ} → length out < from → Copies out from 0 to
@@ -38,6 +38,26 @@ module _ (out : List ℕ) {from v : ℕ} (z : SizeOf (take (length out - from) (
   }
 
 pub ruleset copyings = (copies-none, copies-long, copies-made)
+
+-- One that ends at a position.
+module _ {out to : List ℕ} {from end : ℕ} where
+  pub until-before : end < from → CopiesTo out from end 0 to
+  until-before h = record { exact = λ x p k. absurd (omega (arith, p .size)) }
+
+  pub until-beyond : length out < end → CopiesTo out from end 0 to
+  until-beyond h = record { exact = λ x p k. absurd (omega (arith, stands-ends p (omega (arith, runLength x, some-node x)))) }
+
+  pub until-long : length to < end - from → CopiesTo out from end 0 to
+  until-long h = record { exact = λ x p k. absurd (omega (arith, p .size)) }
+
+  pub until-made : {size : ℕ} → size ≡ end - from → Fetched (take (end - from) (drop from out)) to → CopiesTo out from end size to
+  until-made {size} e w = record {
+    exact = λ x p k.
+        let n : length (encodeMessage x) ≡ size = omega (arith, p .size, e) in
+        rw (part p, n) at (w .there);
+  }
+
+pub ruleset untils = (until-before, until-beyond, until-long, until-made)
 
 -- The second one stands behind the first.
 pub handed : {out : List ℕ} {from a b : ℕ} (channel message : List ℕ) → Copies out from a channel → Copies out (from + a) b message
