@@ -4,6 +4,7 @@ pub mod Rebuilt
 pub mod RebuiltMarks
 pub mod RebuiltBoth
 pub mod Block
+pub mod Kept
 pub mod Still
 pub mod RebuiltLeaves
 pub mod RebuiltMove
@@ -11,6 +12,9 @@ pub mod RebuiltMeant
 pub mod Lead
 pub mod Leads
 pub mod Bare
+pub mod Alone
+pub mod AloneForm
+pub mod AloneLead
 pub mod BareForm
 pub mod Light
 pub mod LightMove

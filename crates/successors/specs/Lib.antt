@@ -1,5 +1,6 @@
 pub mod Lead
 pub mod Bare
+pub mod Alone
 pub mod Rebuild
 pub mod Block
 pub mod Tasks

@@ -18,7 +18,7 @@ ghost use Rattle.states.specs.Progress.{Extends};
 ghost use Rattle.successors.specs.Bare.{Follows, SettlesBoth, Settles, Fits, FormsBare};
 
 // What follows the thread of a state whose record stands at a position, settled after what follows another.
-fn follow(
+pub(crate) fn follow(
     s: &[u8],
     to: usize,
     at: usize,

@@ -1,10 +1,13 @@
 // The state that a step leads to, formed behind the one that it leaves ("Steps"; "Judging and its count").
+use crate::alone;
 use crate::bare;
 use crate::rebuild;
 use crate::tasks;
 use alias_lists::aliases;
 use forms::form;
 use forms::form::Formed;
+use moves::step::Actor;
+use moves::step::Label;
 use moves::step::Step;
 use rests::names;
 use rests::names::Rests;
@@ -13,6 +16,7 @@ ghost use Prim.Native.Nat.{_≤_};
 ghost use lib.ListN.{length};
 ghost use Rattle.nodes.specs.Buffer.{Within};
 ghost use Rattle.successors.specs.Lead.{LeadsAt, Leads, LeadsFor};
+ghost use Rattle.successors.specs.Alone.{LeadsOne};
 
 // The state with the private names of its rests.
 fn build(
@@ -50,8 +54,8 @@ fn build(
     ))
 }
 
-// The state that a step leads to, with its threads.
-fn whole(s: &[u8], state: State, step: Step, message: &[u8], m: &mut [u8], out: &mut [u8]) -> Formed
+// The state that a step leads to, with its threads: first the names of its rests are counted.
+fn named(s: &[u8], state: State, step: Step, message: &[u8], m: &mut [u8], out: &mut [u8]) -> Formed
     requires { ⌜ (length (now s) ≤ 36864) × (state .end ≤ length (now out)) ⌝ }
     ensures { λ _. ⌜ Within 0 (length (now (m .entry))) (now (m .entry)) (now (m .exit)) ⌝ }
     ensures { λ _. ⌜ Within (state .end) (length (now (out .entry))) (now (out .entry)) (now (out .exit)) ⌝ }
@@ -60,6 +64,43 @@ fn whole(s: &[u8], state: State, step: Step, message: &[u8], m: &mut [u8], out: 
     match names::rest_names(s, state, step, message, m, out) {
         Rests::At(last, next) => build(s, state, step, last, next, message, m, out),
         Rests::OverLimit => Formed::OverLimit,
+    }
+}
+
+// The same of an output or an input: a thread that acts itself is replaced at once.
+fn one(
+    s: &[u8],
+    state: State,
+    step: Step,
+    actor: Actor,
+    message: &[u8],
+    m: &mut [u8],
+    out: &mut [u8],
+) -> Formed
+    requires { ⌜ (length (now s) ≤ 36864) × (state .end ≤ length (now out)) ⌝ }
+    ensures { λ _. ⌜ Within 0 (length (now (m .entry))) (now (m .entry)) (now (m .exit)) ⌝ }
+    ensures { λ _. ⌜ Within (state .end) (length (now (out .entry))) (now (out .entry)) (now (out .exit)) ⌝ }
+    ensures { λ r. ⌜ LeadsOne (now (s .entry)) state step actor (now (message .entry)) (now (m .entry)) (now (out .entry)) r (now (out .exit)) ⌝ }
+{
+    let label = step.label;
+    if alone::acts(s, state.end, actor.at, out) {
+        return alone::form(s, state, tasks::sends(label), actor, message, m, out);
+    }
+    named(s, state, step, message, m, out)
+}
+
+// The state that a step leads to, with its threads.
+fn whole(s: &[u8], state: State, step: Step, message: &[u8], m: &mut [u8], out: &mut [u8]) -> Formed
+    requires { ⌜ (length (now s) ≤ 36864) × (state .end ≤ length (now out)) ⌝ }
+    ensures { λ _. ⌜ Within 0 (length (now (m .entry))) (now (m .entry)) (now (m .exit)) ⌝ }
+    ensures { λ _. ⌜ Within (state .end) (length (now (out .entry))) (now (out .entry)) (now (out .exit)) ⌝ }
+    ensures { λ r. ⌜ Leads (now (s .entry)) state step (now (message .entry)) (now (m .entry)) (now (out .entry)) r (now (out .exit)) ⌝ }
+{
+    let label = step.label;
+    match label {
+        Label::Output => one(s, state, step, step.sender, message, m, out),
+        Label::Input => one(s, state, step, step.taker, message, m, out),
+        Label::Silent => named(s, state, step, message, m, out),
     }
 }
 

@@ -1,4 +1,5 @@
 // The state that a step leads to, formed in the lent work bytes ("Steps"; "Judging and its count").
+mod alone;
 mod bare;
 mod block;
 pub mod lead;

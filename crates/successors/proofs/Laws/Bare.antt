@@ -72,7 +72,7 @@ module _ {s message m out : List ℕ} {to at : ℕ} {now : Progress} where
 pub ruleset followings = (follows-not, follows-none, follows-short, follows-rest)
 
 -- What is settled after something else, if that goes on.
-then-shown : {s out after : List ℕ} {now r : Progress} (c : Course) (f : Going → Course) → ShowsCourse s out now c
+pub then-shown : {s out after : List ℕ} {now r : Progress} (c : Course) (f : Going → Course) → ShowsCourse s out now c
     → (now .going ≡ false → (r ≡ now) × (after ≡ out)) → ((g : Going) → c ≡ going g → Shows s out now g → ShowsCourse s after r (f g))
     → ShowsCourse s after r (further c f)
 then-shown {s} {out} {after} {now} {r} c f d stopped on = by-going (now .going) refl

@@ -47,7 +47,8 @@ use Rattle.successors.specs.declared.tasks.Tasks.{Tasks}
 use Rattle.moves.proofs.Laws.Limits.{limitsJudged}
 use Rattle.moves.proofs.Laws.Threads.{threads-kept}
 use Rattle.moves.proofs.Laws.Start.{held-threads}
-use Rattle.successors.proofs.Laws.Rebuilt.{pushAll-limits}
+use Rattle.walks.proofs.Laws.Crowd.{crowded, roomy}
+use Rattle.positions.proofs.Laws.Writing.{pushAll-writes}
 use Rattle.successors.proofs.Laws.RebuiltMove.{rebuiltMove}
 use Rattle.successors.proofs.Laws.RebuiltMeant.{meantMove}
 use Rattle.positions.specs.Located.{prefixed}
@@ -76,7 +77,7 @@ aliases-after ps k start x ρ (inside p w) = rw append-nil
 aliases-after ps k start x ρ (between p q w) = rw append-nil
 
 -- What was written within the limits of threads and nodes, as a state.
-abbrev written : State → Outcome → Going
+abbrev pub written : State → Outcome → Going
 written S o = record {
   names = o .next;
   nodes = boundNodes (S .aliases ++ o .alias) + threadNodes (threadsOf (o .threads));
@@ -122,13 +123,11 @@ unless-twice : (a b : Bool) (c : Course) → unless a (unless b c) ≡ unless (a
 unless-twice true b c = refl
 unless-twice false b c = refl
 
--- The aliases are copied, the threads are rebuilt behind them, and the end is judged.
-module _ {s message m out mid after : List ℕ} {st : code.State} {v : step.Step} {last next : ℕ} {q : Bool} {b r : Progress} {f : Formed} {T : Tasks}
-    (carries : Carries st message q next out b mid) (e : q ≡ sends (v .label)) (tasks : T ≡ tasksOf v last (st .names))
-    (rebuilds : Rebuilds s message (st .start) (st .end) m (T .first) (T .task) (T .second) (T .other) mid b r after) (extends : Extends b r)
-    (within : Within (st .end) (length out) out mid) (further : Within (b .state .end) (length mid) mid after) (finishes : Finishes r f) where
-  module _ (S : State) (h : Held s out st S) (x : Message) (w : Move) (moving : Moving s out st S h v x w message) (leading : Leading s st S m out)
-      (last-is : last ≡ lastFor w) (next-is : next ≡ outcome (h .at .placed) (S .next) x w .next) where
+-- The aliases are copied, the threads are written behind them, and the end is judged.
+module _ {s message m out mid after : List ℕ} {st : code.State} {v : step.Step} {n : ℕ} {q : Bool} {b r : Progress} {f : Formed}
+    (carries : Carries st message q n out b mid) (e : q ≡ sends (v .label)) (extends : Extends b r) (above : st .end ≤ b .state .end)
+    (further : Within (b .state .end) (length mid) mid after) (finishes : Finishes r f) where
+  module _ (S : State) (h : Held s out st S) (x : Message) (w : Move) (moving : Moving s out st S h v x w message) (leading : Leading s st S m out) where
     abbrev led : Outcome
     led = outcome (h .at .placed) (S .next) x w
 
@@ -141,7 +140,7 @@ module _ {s message m out mid after : List ℕ} {st : code.State} {v : step.Step
         (moving .earlier) (moving .others) w (moving .listed)
 
     begun-or-not : (1024 < boundNodes now-aliases → b .going ≡ false)
-        × (boundNodes now-aliases ≤ 1024 → Begun s (st .end) now-aliases next b mid)
+        × (boundNodes now-aliases ≤ 1024 → Begun s (st .end) now-aliases n b mid)
     begun-or-not =
         let same = ap (λ u. appended (sends (u .label)) (S .aliases) (carried x w)) (moving .same)
         ∙ aliases-after (h .at .placed) (S .next) (st .start) x (S .aliases) w in
@@ -150,12 +149,8 @@ module _ {s message m out mid after : List ℕ} {st : code.State} {v : step.Step
         rw (e, same) at inside
 
     -- Too many nodes in the aliases.
-    too-many : 1024 < boundNodes now-aliases → Forms s (st .end) (arrivalOf S led) f after
-    too-many z =
-        let (off, _) = begun-or-not in
-        let (same, _) = rebuilds .stopped (off z) in
-        let over = finishes .over (ap (λ p. p .going) same ∙ off z) in
-        record { none = λ t. over; some = λ t. absurd (not-full (sym limits ∙ t)) }
+    too-many : r .going ≡ false → 1024 < boundNodes now-aliases → Forms s (st .end) (arrivalOf S led) f after
+    too-many off z = record { none = λ t. finishes .over off; some = λ t. absurd (not-full (sym limits ∙ t)) }
       where
         not-full : (restOver x w || full S led || ltb 128 (led .next)) ≡ false → ⊥
         not-full t =
@@ -164,49 +159,11 @@ module _ {s message m out mid after : List ℕ} {st : code.State} {v : step.Step
             let (_, heavy) = neither (ltb 32 (length (led .threads))) _ filled in
             omega (arith, ltb-false 1024 (threadNodes (threadsOf (led .threads)) + boundNodes now-aliases) heavy)
 
-    abbrev fresh : Going
-    fresh = record { names = led .next; nodes = boundNodes now-aliases; threads = [] }
-
-    -- The threads, if no limit is met.
-    course : boundNodes now-aliases ≤ 1024
-        → rebuilt (carried x w) (T .first) (T .task) (T .second) (T .other) (st .start) (h .at .placed) fresh
-        ≡ unless (restOver x w || full S led) (going (written S led))
-    course z =
-        let same : T ≡ tasksOf (stepOf (st .start) w) (lastFor w) (S .next) = tasks ∙ rw (moving .same, last-is, h .at .names) in
-        let built = every-move (S .next) (h .at .placed)
-        (rebuiltMove (h .at .placed) (S .next) (st .start) x (h .judged) (moving .stored)) (v .label) (moving .channel)
-        (moving .earlier) (moving .others) w (moving .listed) fresh (omega arith) z in
-        let sum : boundNodes now-aliases + threadNodes (threadsOf (led .threads)) ≡ threadNodes (threadsOf (led .threads)) + boundNodes now-aliases
-        = omega arith in
-        let none-yet : 0 + length (led .threads) ≡ length (led .threads) = omega arith in
-        let limited = pushAll-limits (led .threads) fresh (omega arith) z in
-        ap (λ u. rebuilt (carried x w) (u .first) (u .task) (u .second) (u .other) (st .start) (h .at .placed) fresh) same
-        ∙ built ∙ ap (unless (restOver x w)) (limited
-        ∙ ap (λ n. unless (ltb 32 (0 + length (led .threads)) || ltb 1024 n) (going (written S led))) sum
-        ∙ ap (λ n. unless (ltb 32 n || ltb 1024 (threadNodes (threadsOf (led .threads)) + boundNodes now-aliases)) (going (written S led))) none-yet)
-        ∙ unless-twice (restOver x w) (full S led) (going (written S led))
-
-    -- The aliases stand, and the threads behind them.
-    enough : st .end ≤ b .state .end → boundNodes now-aliases ≤ 1024 → Forms s (st .end) (arrivalOf S led) f after
-    enough above z =
-        let begun : Begun s (st .end) now-aliases (led .next) b mid = rw next-is at (begun-or-not .1 z) in
-        let (meant, next-small) = every-move (S .next) (h .at .placed)
-        (meantMove s (h .at .placed) (S .next) (st .start) (h .made) (leading .short) (h .judged) (h .at .standing)) (v .label)
-        (moving .channel) (moving .earlier) (moving .others) w (moving .listed) in
-        let small = next-small (h .at .placed) x in
-        let same : tasksOf (stepOf (st .start) w) (lastFor w) (S .next) ≡ T = sym (tasks ∙ rw (moving .same, last-is, h .at .names)) in
-        let prepared : Prepared s message m (T .task) (T .other) (carried x w) (led .next) =
-        record {
-          labelled = moving .labelled;
-          short = leading .short;
-          room = leading .wide;
-          names = subst (λ (u : Tasks). NamesSmall (u .task) (led .next)) same (meant .names _ small);
-          other-names = subst (λ (u : Tasks). NamesSmall (u .other) (led .next)) same (meant .other-names _ small);
-          meant = subst (λ (u : Tasks). Meant s (u .task)) same (meant .task);
-          other-meant = subst (λ (u : Tasks). Meant s (u .other)) same (meant .other);
-        } in
-        let shown = rebuilds .exact (h .at .placed) (carried x w) fresh (threads-kept (h .at .placed) within (omega arith) (held-threads h)) above
-        prepared (begun .shows) in
+    -- Otherwise they stand, and the threads behind them.
+    enough : boundNodes now-aliases ≤ 1024 → ShowsCourse s after r (unless (restOver x w || full S led) (going (written S led)))
+        → Forms s (st .end) (arrivalOf S led) f after
+    enough z shown =
+        let begun = begun-or-not .1 z in
         let bound = begun .bound in
         let bound-after : BoundTo after (st .end) now-aliases (b .state .start) =
         record {
@@ -216,18 +173,80 @@ module _ {s message m out mid after : List ℕ} {st : code.State} {v : step.Step
         } in
         formed s after (st .end) S led r (extends .aliases ∙ begun .aliases)
         (subst (λ (n : ℕ). BoundTo after (st .end) now-aliases n) (sym (extends .start)) bound-after)
-        (restOver x w || full S led) (rw (course z) at shown) limits finishes
+        (restOver x w || full S led) shown limits finishes
+
+    pub formed-behind : (b .going ≡ false → r .going ≡ false)
+        → (boundNodes now-aliases ≤ 1024 → Begun s (st .end) now-aliases n b mid
+        → ShowsCourse s after r (unless (restOver x w || full S led) (going (written S led)))) → Forms s (st .end) (arrivalOf S led) f after
+    formed-behind stopped shown = by-nodes (ltb 1024 (boundNodes now-aliases)) refl
+      where
+        by-nodes : (t : Bool) → ltb 1024 (boundNodes now-aliases) ≡ t → Forms s (st .end) (arrivalOf S led) f after
+        by-nodes true t = let z = ltb-true 1024 _ t in too-many (stopped (begun-or-not .0 z)) z
+        by-nodes false t = let z = ltb-false 1024 _ t in enough z (shown z (begun-or-not .1 z))
+
+-- The test of what was written is that of the state.
+pub full-written : (S : State) (o : Outcome) → crowded (written S o) ≡ full S o
+unfolding crowded
+full-written S o =
+    let sum : boundNodes (S .aliases ++ o .alias) + threadNodes (threadsOf (o .threads)) ≡ threadNodes (threadsOf (o .threads)) + boundNodes (S .aliases ++ o .alias)
+    = omega arith in
+    ap (λ n. ltb 32 (length (o .threads)) || ltb 1024 n) sum
+
+-- The threads are rebuilt.
+module _ {s message m out mid after : List ℕ} {st : code.State} {v : step.Step} {last next : ℕ} {q : Bool} {b r : Progress} {f : Formed} {T : Tasks}
+    (carries : Carries st message q next out b mid) (e : q ≡ sends (v .label)) (tasks : T ≡ tasksOf v last (st .names))
+    (rebuilds : Rebuilds s message (st .start) (st .end) m (T .first) (T .task) (T .second) (T .other) mid b r after) (extends : Extends b r)
+    (within : Within (st .end) (length out) out mid) (further : Within (b .state .end) (length mid) mid after) (finishes : Finishes r f) where
+  module _ (S : State) (h : Held s out st S) (x : Message) (w : Move) (moving : Moving s out st S h v x w message) (leading : Leading s st S m out)
+      (last-is : last ≡ lastFor w) (next-is : next ≡ outcome (h .at .placed) (S .next) x w .next) where
+    abbrev arrives : Outcome
+    arrives = outcome (h .at .placed) (S .next) x w
+
+    abbrev carried-aliases : Bound
+    carried-aliases = S .aliases ++ arrives .alias
+
+    abbrev fresh : Going
+    fresh = record { names = arrives .next; nodes = boundNodes carried-aliases; threads = [] }
+
+    -- The threads, if no limit is met.
+    course : boundNodes carried-aliases ≤ 1024
+        → rebuilt (carried x w) (T .first) (T .task) (T .second) (T .other) (st .start) (h .at .placed) fresh
+        ≡ unless (restOver x w || full S arrives) (going (written S arrives))
+    course z =
+        let same : T ≡ tasksOf (stepOf (st .start) w) (lastFor w) (S .next) = tasks ∙ rw (moving .same, last-is, h .at .names) in
+        let built = every-move (S .next) (h .at .placed)
+        (rebuiltMove (h .at .placed) (S .next) (st .start) x (h .judged) (moving .stored)) (v .label) (moving .channel)
+        (moving .earlier) (moving .others) w (moving .listed) fresh (omega arith) z in
+        let limited = pushAll-writes (arrives .threads) fresh (roomy fresh (omega arith) z) .is in
+        ap (λ u. rebuilt (carried x w) (u .first) (u .task) (u .second) (u .other) (st .start) (h .at .placed) fresh) same
+        ∙ built ∙ ap (unless (restOver x w)) (limited ∙ ap (λ c. unless c (going (written S arrives))) (full-written S arrives))
+        ∙ unless-twice (restOver x w) (full S arrives) (going (written S arrives))
+
+    rebuilt-shown : st .end ≤ b .state .end → boundNodes carried-aliases ≤ 1024 → Begun s (st .end) carried-aliases next b mid
+        → ShowsCourse s after r (unless (restOver x w || full S arrives) (going (written S arrives)))
+    rebuilt-shown above z begins =
+        let begun : Begun s (st .end) carried-aliases (arrives .next) b mid = rw next-is at begins in
+        let (meant, next-small) = every-move (S .next) (h .at .placed)
+        (meantMove s (h .at .placed) (S .next) (st .start) (h .made) (leading .short) (h .judged) (h .at .standing)) (v .label)
+        (moving .channel) (moving .earlier) (moving .others) w (moving .listed) in
+        let small = next-small (h .at .placed) x in
+        let same : tasksOf (stepOf (st .start) w) (lastFor w) (S .next) ≡ T = sym (tasks ∙ rw (moving .same, last-is, h .at .names)) in
+        let prepared : Prepared s message m (T .task) (T .other) (carried x w) (arrives .next) =
+        record {
+          labelled = moving .labelled;
+          short = leading .short;
+          room = leading .wide;
+          names = subst (λ (u : Tasks). NamesSmall (u .task) (arrives .next)) same (meant .names _ small);
+          other-names = subst (λ (u : Tasks). NamesSmall (u .other) (arrives .next)) same (meant .other-names _ small);
+          meant = subst (λ (u : Tasks). Meant s (u .task)) same (meant .task);
+          other-meant = subst (λ (u : Tasks). Meant s (u .other)) same (meant .other);
+        } in
+        rw (course z) at (rebuilds .exact (h .at .placed) (carried x w) fresh (threads-kept (h .at .placed) within (omega arith) (held-threads h)) above
+        prepared (begun .shows))
 
   pub leads-at : st .end ≤ b .state .end → LeadsAt s st v last next message m out f after
   leads-at above = record {
     exact = λ S h x w moving leading large last-is next-is.
-        let aliases = boundNodes (S .aliases ++ outcome (h .at .placed) (S .next) x w .alias) in
-        by-nodes S h x w moving leading last-is next-is (ltb 1024 aliases) refl;
+        formed-behind carries e extends above further finishes S h x w moving leading
+        (λ off. ap (λ p. p .going) (rebuilds .stopped off .0) ∙ off) (rebuilt-shown S h x w moving leading last-is next-is above);
   }
-    where
-      by-nodes : (S : State) (h : Held s out st S) (x : Message) (w : Move) → Moving s out st S h v x w message → Leading s st S m out
-          → last ≡ lastFor w → next ≡ outcome (h .at .placed) (S .next) x w .next
-          → (t : Bool) → ltb 1024 (boundNodes (S .aliases ++ outcome (h .at .placed) (S .next) x w .alias)) ≡ t
-          → Forms s (st .end) (arrivalOf S (outcome (h .at .placed) (S .next) x w)) f after
-      by-nodes S h x w moving leading l n true t = too-many S h x w moving leading l n (ltb-true 1024 _ t)
-      by-nodes S h x w moving leading l n false t = enough S h x w moving leading l n above (ltb-false 1024 _ t)

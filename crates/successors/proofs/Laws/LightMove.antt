@@ -45,7 +45,7 @@ pub record Light (ps : List Placed) (o : Outcome) (over : Bool) (g : Going) : Ty
   pub light : nodesOf (o .threads) ≤ nodesOf ps + g .nodes
 
 -- The only element of a list.
-only-one : {A : Type 0} (b a : A) → Among (b ∷ []) a → a ≡ b
+pub only-one : {A : Type 0} (b a : A) → Among (b ∷ []) a → a ≡ b
 only-one {A} b a m = of (m .before) (m .listed)
   where
     of : (xs : List A) → b ∷ [] ≡ xs ++ (a ∷ m .after) → a ≡ b
@@ -53,20 +53,20 @@ only-one {A} b a m = of (m .before) (m .listed)
     of (x ∷ xs) e = absurd (omega (arith, ap length e, length-append xs (a ∷ m .after)))
 
 -- A thread that acts itself, with its offer.
-abbrev spotOf : (before : List Placed) → ℕ → Thread → (behind : List Placed) → Spot
+abbrev pub spotOf : (before : List Placed) → ℕ → Thread → (behind : List Placed) → Spot
 spotOf before place u behind = record { before = before; thread = record { place = place; thread = u }; behind = behind }
 
-abbrev offerOf : ℕ → Bound → Prefix → Process → ℕ → Acting
+abbrev pub offerOf : ℕ → Bound → Prefix → Process → ℕ → Acting
 offerOf place ρ q P k = record { place = place; bound = ρ; prefix = q; rest = P; next = k }
 
 -- What follows it stands in its place.
-own-place : (place : ℕ) (ρ : Bound) (q : Prefix) (P : Process) (k : ℕ) (z : List Placed)
+pub own-place : (place : ℕ) (ρ : Bound) (q : Prefix) (P : Process) (k : ℕ) (z : List Placed)
     → replacedIn (record { place = place; thread = act ρ q P }) place k z ≡ z
 unfolding replacedAs
 own-place place ρ q P k z = rw (eq-eqb place place refl, replacedAs)
 
 -- It is settled under the same messages.
-behind-after : (place : ℕ) (ρ : Bound) (q : Prefix) (P : Process) (k : ℕ) (y : Message) → boundBehind q ρ y ≡ boundAfter y (offerOf place ρ q P k)
+pub behind-after : (place : ℕ) (ρ : Bound) (q : Prefix) (P : Process) (k : ℕ) (y : Message) → boundBehind q ρ y ≡ boundAfter y (offerOf place ρ q P k)
 behind-after place ρ (output C M) P k y = refl
 behind-after place ρ (input C) P k y = refl
 

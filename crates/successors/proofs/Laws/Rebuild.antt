@@ -76,7 +76,7 @@ unfolding renewed
 renewed-names x i T j U at t g h e =
     ends-either (eqb at i) (goOver-next t T x g) (ends-either (eqb at j) (goOver-next t U x g) (push-next (t .place) (t .thread) g)) .at-end h e
 
-threads-long : {s out : List ℕ} {at k to : ℕ} (t : Placed) (ts : List Placed) → Threads s out at k (t ∷ ts) to → at + 4 ≤ to
+pub threads-long : {s out : List ℕ} {at k to : ℕ} (t : Placed) (ts : List Placed) → Threads s out at k (t ∷ ts) to → at + 4 ≤ to
 threads-long t ts h = let (a, b, c) = first-thread t ts h in omega (arith, record-long t, c .stands .size)
 
 -- Nothing more is done.

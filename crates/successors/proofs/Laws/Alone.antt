@@ -1,0 +1,68 @@
+-- A thread that acts itself, among the others that stay ("Steps"; "Judging and its count"). Assumes nothing.
+use mathlib.Core.Path.{sym, ap, _∙_}
+use mathlib.Core.List.{List, [], _∷_, _++_}
+use Prim.Native.Nat.{ℕ, _+_, _-_}
+use native.Mathlib.Omega.{arith}
+use lib.ListN.{length}
+use Rattle.meaning.specs.Places.{_also_}
+use Rattle.meaning.proofs.Every.{every-parts}
+use Rattle.meaning.proofs.Bytes.Reading.Place.{parts}
+use Rattle.nodes.specs.Buffer.{Within}
+use Rattle.nodes.proofs.Laws.Buffer.{unchanged, wider}
+use Rattle.states.specs.Record.{Placed, encodeRecord, encodeRecords}
+use Rattle.states.specs.Course.{going, further}
+use Rattle.states.specs.Progress.{Extends}
+use Rattle.states.specs.declared.state.State as code
+use Rattle.states.specs.declared.progress.Progress.{Progress}
+use Rattle.states.proofs.Laws.Progress.{records-twice}
+use Rattle.positions.specs.Rebuilt.{pushAll}
+use Rattle.positions.proofs.Laws.Writing.{pushAll-names}
+use Rattle.moves.specs.Threads.{Threads}
+use Rattle.moves.proofs.Laws.Threads.{first-thread, threads-from, threads-kept, thread-kept}
+use Rattle.successors.specs.Alone.{Replaces}
+use Rattle.successors.specs.Bare.{behindSpot, Follows}
+use Rattle.successors.specs.Block.{KeepsAll}
+use Rattle.successors.proofs.Laws.Bare.{then-shown}
+use Rattle.successors.proofs.Laws.Block.{records-joined}
+
+-- The threads before one end where its record begins.
+threads-before : {s out : List ℕ} {at k end : ℕ} (ls ts : List Placed) → Threads s out at k (ls ++ ts) end
+    → Threads s out at k ls (at + length (encodeRecords ls))
+threads-before ls ts h =
+    let (mid, first, rest) = parts (encodeRecords ls) (encodeRecords ts ∷ []) (rw (records-joined ls ts) at (h .stands)) in
+    record {
+      stands = rw (first .size) at first;
+      standing = every-parts ls (h .standing) .0;
+      judged = every-parts ls (h .judged) .0;
+    }
+
+-- Those before it are kept, what follows it is settled, and those behind it are kept.
+pub replaced : {s message m out out₁ out₂ after : List ℕ} {st : code.State} {at next : ℕ} {now r₁ r₂ r : Progress}
+    → KeepsAll out (st .start) at now r₁ out₁ → Extends now r₁ → Within (now .state .end) (length out) out out₁
+    → Follows s (st .end) at message m out₁ r₁ r₂ out₂ → Extends r₁ r₂ → Within (r₁ .state .end) (length out₁) out₁ out₂
+    → KeepsAll out₂ next (st .end) r₂ r after → Replaces s st at next message m out now r after
+replaced {s} {message} {m} {out} {out₁} {out₂} {after} {st} {at} {next} {now} {r₁} {r₂} {r} first e₁ w₁ second e₂ w₂ third = record {
+  stopped = λ off.
+      let (same₁, bytes₁) = first .stopped off in
+      let (same₂, bytes₂) = second .stopped (ap (λ q. q .going) same₁ ∙ off) in
+      let (same, bytes) = third .stopped (ap (λ q. q .going) (same₂ ∙ same₁) ∙ off) in
+      same ∙ same₂ ∙ same₁;
+  exact = λ p y g {k} h here there t i n low d.
+      let own : Threads s out (st .start) k (p .before) at = rw (sym here) at (threads-before (p .before) (p .thread ∷ p .behind) h) in
+      let (a, j, rest) = first-thread (p .thread) (p .behind) (threads-from (p .before) (p .thread ∷ p .behind) h) in
+      let later : Threads s out next k (p .behind) (st .end) = rw (sym (there ∙ ap (λ n. n + length (encodeRecord (p .thread))) here)) at rest in
+      let shown = first .exact s (p .before) g own (omega (arith, t .recorded .stands .size, t .below)) d in
+      let kept : Within (st .end) (length out) out out₁ = wider w₁ low (omega arith) in
+      let here₁ = thread-kept (p .thread) kept (unchanged {low = 0} {high = 0}) t in
+      let shown₁ = then-shown (pushAll (p .before) g) (behindSpot y p) shown (second .stopped)
+      (λ f c v. second .exact (p .thread) y f here₁ i (omega (arith, pushAll-names (p .before) g f c)) v) in
+      let later₂ = threads-kept (p .behind) (records-twice w₁ w₂ e₁) low later in
+      then-shown (further (pushAll (p .before) g) (behindSpot y p)) (pushAll (p .behind)) shown₁ (third .stopped)
+      (λ f c v. third .exact s (p .behind) f later₂ (omega (arith, e₁ .end, e₂ .end)) v);
+}
+
+-- All is written behind what is written already.
+pub replaced-within : {out out₁ out₂ after : List ℕ} {now r₁ r₂ : Progress} {high high₁ high₂ : ℕ} → Within (now .state .end) high out out₁
+    → Within (r₁ .state .end) high₁ out₁ out₂ → Within (r₂ .state .end) high₂ out₂ after → Extends now r₁ → Extends r₁ r₂
+    → Within (now .state .end) (length out) out after
+replaced-within w₁ w₂ w₃ e₁ e₂ = records-twice w₁ (records-twice w₂ w₃ e₂) e₁

@@ -1,0 +1,201 @@
+-- The state that an output or an input of a thread leads to that acts itself, as it is formed ("Steps"; "Judging and its count"). Assumes
+-- nothing.
+use mathlib.Core.Path.{_≡_, refl, sym, ap, subst, _∙_}
+use mathlib.Core.Bool.{Bool, true, false, not, _||_, true≢false}
+use mathlib.Core.List.{List, [], _∷_, _++_}
+use Prim.Native.Nat.{ℕ, _+_, _-_, _≤_, _<_}
+use native.Mathlib.Omega.{arith}
+use borrow.Author.Tests.{not-true, eqb-false}
+use lib.Dec.{eqb}
+use lib.ListN.{length, getD}
+use Rattle.meaning.specs.Messages.Term.{Message}
+use Rattle.meaning.specs.Bytes.Process.{Process}
+use Rattle.meaning.specs.Steps.State.{Bound, State, repl}
+use Rattle.meaning.specs.Judging.Limits.{boundNodes}
+use Rattle.meaning.proofs.Every.{every-split}
+use Rattle.nodes.specs.Buffer.{Within}
+use Rattle.nodes.specs.Encoding.{numberAt}
+use Rattle.nodes.proofs.Laws.Buffer.{unchanged}
+use Rattle.states.specs.Record.{processOf, encodeRecord}
+use Rattle.states.specs.Course.{Going, going, unless}
+use Rattle.states.specs.Shown.{ShowsCourse}
+use Rattle.states.specs.Progress.{Extends}
+use Rattle.states.specs.declared.state.State as code
+use Rattle.states.specs.declared.progress.Progress.{Progress}
+use Rattle.states.proofs.Laws.Process.{kindOf, process-kind}
+use Rattle.states.proofs.Laws.Stored.{record-parts}
+use Rattle.walks.proofs.Laws.Crowd.{roomy}
+use Rattle.forms.specs.Form.{Forms, Finishes}
+use Rattle.forms.specs.declared.form.Formed.{Formed}
+use Rattle.positions.specs.Located.{Acting}
+use Rattle.positions.proofs.Laws.Copies.{split-at}
+use Rattle.moves.specs.Spot.{Spot, recordAt}
+use Rattle.moves.specs.Moves.{Move, alone, inside, between}
+use Rattle.moves.specs.Outcome.{outcome, arrivalOf}
+use Rattle.moves.specs.Limits.{restOver, full}
+use Rattle.moves.specs.Threads.{Threads}
+use Rattle.moves.specs.CopyOffers.{ThreadAt}
+use Rattle.moves.specs.Step.{actor, stepOf}
+use Rattle.moves.specs.Held.{Held}
+use Rattle.moves.specs.Moving.{carried, Leading, Moving}
+use Rattle.moves.specs.declared.step.Step as step
+use Rattle.moves.specs.declared.step.Actor.{Actor}
+use Rattle.moves.specs.declared.step.Label.{Label}
+use Rattle.moves.specs.declared.step.Label.the-variants.{Output, Input, Silent}
+use Rattle.moves.proofs.Laws.Start.{held-threads}
+use Rattle.moves.proofs.Laws.Threads.{threads-from, threads-kept, thread-kept, record-end}
+use Rattle.rests.proofs.Laws.Rests.{record-below}
+use Rattle.rests.proofs.Laws.RestsMoves.{Stood, moves-stood}
+use Rattle.rests.proofs.Laws.RestsSettled.{sender-alone, taker-alone}
+use Rattle.rests.proofs.Laws.RestsThread.{thread-at, later-few, offer-acts}
+use Rattle.alias_lists.specs.Aliases.{Begun, Carries}
+use Rattle.successors.specs.Tasks.{sends}
+use Rattle.successors.specs.Alone.{Acts, Replaces, LeadsUntil, LeadsAlone, LeadsOne}
+use Rattle.successors.specs.Lead.{Leads}
+use Rattle.successors.proofs.Laws.Lead.{written, full-written, formed-behind}
+use Rattle.successors.proofs.Laws.AloneForm.{replaced-alone}
+
+-- The thread of the step, and where its record ends.
+module _ {s out message : List ℕ} {st : code.State} {S : State} (h : Held s out st S) {v : step.Step} {x : Message} (p : Spot) (a : Acting)
+    (moving : Moving s out st S h v x (alone p a) message) where
+  stood : Stood (S .next) (h .at .placed) (alone p a)
+  stood = every-split (split-at (moving .earlier) (moving .listed)) (moves-stood _ (h .at .placed) (v .label) (moving .channel)) .1
+
+  all-threads : Threads s out (st .start) (S .next) (p .before ++ (p .thread ∷ p .behind)) (st .end)
+  all-threads = subst (λ ps. Threads s out (st .start) (S .next) ps (st .end)) (stood .0 .parts) (held-threads h)
+
+  own-thread : {m : List ℕ} → Leading s st S m out → ThreadAt s out m (recordAt (st .start) p) (S .next) (st .end) (p .thread)
+  own-thread {m} leading =
+      subst (λ k. ThreadAt s out m (recordAt (st .start) p) k (st .end) (p .thread)) (h .at .names) (thread-at h leading p (stood .0))
+
+  own-end : (length (encodeRecord (p .thread)) ≡ 4 + numberAt out (recordAt (st .start) p + 2))
+      × (recordAt (st .start) p + length (encodeRecord (p .thread)) ≤ st .end)
+  own-end = record-end (p .thread) (p .behind) (threads-from (p .before) (p .thread ∷ p .behind) all-threads)
+
+-- Where no record stands, there is no such step.
+module _ {s message m out after : List ℕ} {st : code.State} {q : Bool} {u : Actor} {f : Formed} where
+  pub alone-early : u .at < st .start → LeadsAlone s st q u message m out f after
+  alone-early l = record { exact = λ v S h x p a moving e own plain leading. absurd (omega (arith, ap (λ w. w .at) own)) }
+
+  pub alone-none : st .end < 4 → LeadsAlone s st q u message m out f after
+  alone-none l = record {
+    exact = λ v S h x p a moving e own plain leading. absurd (omega (arith, record-below (p .thread) (own-thread h p a moving leading)));
+  }
+
+  pub alone-short : st .end - 4 < u .at → LeadsAlone s st q u message m out f after
+  alone-short l = record {
+    exact = λ v S h x p a moving e own plain leading.
+        absurd (omega (arith, ap (λ w. w .at) own, record-below (p .thread) (own-thread h p a moving leading)));
+  }
+
+  pub alone-cut : {n : ℕ} → n ≡ numberAt out (u .at + 2) → st .end < u .at + 4 + n → LeadsAlone s st q u message m out f after
+  alone-cut d l = record {
+    exact = λ v S h x p a moving e own plain leading.
+        let at = ap (λ w. w .at) own in
+        let (size, low) = own-end h p a moving in
+        absurd (omega (arith, size, low, at, ap (λ i. numberAt out (i + 2)) at));
+  }
+
+-- The aliases, and then the threads.
+leads-alone : {s message m out mid after : List ℕ} {st : code.State} {q : Bool} {u : Actor} {n : ℕ} {b r : Progress} {f : Formed}
+    → n ≡ numberAt out (u .at + 2) → Carries st message q (u .next) out b mid → st .end ≤ b .state .end → Within (st .end) (length out) out mid
+    → Replaces s st (u .at) (u .at + 4 + n) message m mid b r after → Extends b r → Within (b .state .end) (length mid) mid after → Finishes r f
+    → LeadsAlone s st q u message m out f after
+leads-alone {s} {message} {m} {out} {mid} {after} {st} {q} {u} {n} {b} {r} d carries above within replaces extends further finishes = record {
+  exact = λ v S h x p a moving e own plain leading.
+      formed-behind carries e extends above further finishes S h x (alone p a) moving leading
+      (λ off. ap (λ w. w .going) (replaces .stopped off) ∙ off) (shown v S h x p a moving own plain leading);
+}
+  where
+    shown : (v : step.Step) (S : State) (h : Held s out st S) (x : Message) (p : Spot) (a : Acting) → Moving s out st S h v x (alone p a) message
+        → u ≡ actor (st .start) p a → (getD s (p .thread .place) 0 ≡ 7 → ⊥) → Leading s st S m out
+        → let o = outcome (h .at .placed) (S .next) x (alone p a) in
+        boundNodes (S .aliases ++ o .alias) ≤ 1024 → Begun s (st .end) (S .aliases ++ o .alias) (u .next) b mid
+        → ShowsCourse s after r (unless (restOver x (alone p a) || full S o) (going (written S o)))
+    shown v S h x p a moving own plain leading light begun =
+        let o = outcome (h .at .placed) (S .next) x (alone p a) in
+        let aliases = S .aliases ++ o .alias in
+        let at : u .at ≡ recordAt (st .start) p = ap (λ w. w .at) own in
+        let next : u .next ≡ a .next = ap (λ w. w .next) own in
+        let (stands, among) = stood h p a moving in
+        let t = own-thread h p a moving leading in
+        let (size, low) = own-end h p a moving in
+        let small = offer-acts (p .thread) a among .small in
+        let few = later-few (p .thread) t in
+        let g : Going = record { names = u .next; nodes = boundNodes aliases; threads = [] } in
+        let here : ThreadAt s mid m (u .at) (S .next) (st .end) (p .thread) =
+        rw (sym at) at (thread-kept (p .thread) within (unchanged {low = 0} {high = 0}) t) in
+        let ends : u .at + 4 + n ≡ u .at + length (encodeRecord (p .thread)) = omega (arith, size, ap (λ i. numberAt out (i + 2)) at) in
+        let judged = every-split (split-at (p .before) (stands .parts)) (h .judged) .1 in
+        let standing = every-split (split-at (p .before) (stands .parts)) (h .at .standing) .1 in
+        let acts : (ρ : Bound) (P : Process) → p .thread .thread ≡ repl ρ P → ⊥ = λ ρ P z.
+        plain (process-kind (processOf (p .thread .thread)) (standing .process) .0 ∙ ap (λ w. kindOf (processOf w)) z) in
+        let course = replaced-alone (h .at .placed) (S .next) x (moving .stored) p a stands among judged acts g next (roomy g (omega arith) light) in
+        let all = replaces .exact p (carried x (alone p a)) g (threads-kept _ within (omega arith) (all-threads h p a moving)) at ends here
+        (moving .labelled) (omega (arith, next, small, few, t .few)) above (begun .shows) in
+        subst (λ (c : Bool). ShowsCourse s after r (unless (restOver x (alone p a) || c) (going (written S o)))) (full-written S o) (rw course at all)
+
+pub leads-until : {s message m out mid after : List ℕ} {st : code.State} {q : Bool} {u : Actor} {next : ℕ} {b r : Progress} {f : Formed}
+    → Carries st message q (u .next) out b mid → st .end ≤ b .state .end → Within (st .end) (length out) out mid
+    → Replaces s st (u .at) next message m mid b r after → Extends b r → Within (b .state .end) (length mid) mid after → Finishes r f
+    → LeadsUntil s st q u next message m out f after
+leads-until carries above within replaces extends further finishes = record {
+  exact = λ d e. leads-alone d carries above within (rw e at replaces) extends further finishes;
+}
+
+pub alone-found : {s message m out after : List ℕ} {st : code.State} {q : Bool} {u : Actor} {n : ℕ} {f : Formed} → n ≡ numberAt out (u .at + 2)
+    → LeadsUntil s st q u (u .at + 4 + n) message m out f after → LeadsAlone s st q u message m out f after
+alone-found d leads = leads .exact d refl
+
+pub ruleset alones = (alone-early, alone-none, alone-short, alone-cut, alone-found)
+
+-- A thread is no repl, or nothing is said of it.
+module _ {s out : List ℕ} {at : ℕ} where
+  pub acts-not : Acts s at out false
+  acts-not = record { exact = λ e. absurd (true≢false (sym e)) }
+
+  pub acts-so : {place kind : ℕ} → place ≡ numberAt out at → kind ≡ getD s place 0 → {b : Bool} → b ≡ not (eqb kind 7) → Acts s at out b
+  acts-so {place} {kind} p k e = record {
+    exact = λ so t h z.
+        let (here, size, bound) = record-parts t h in
+        eqb-false kind 7 (not-true (eqb kind 7) (sym e ∙ so)) (k ∙ ap (λ i. getD s i 0) (p ∙ here) ∙ z);
+  }
+
+-- So a step of one thread leads there, whichever way it is formed.
+module _ {s message m out after : List ℕ} {st : code.State} {v : step.Step} {u : Actor} {f : Formed} where
+  pub one-alone : {c q : Bool} → Acts s (u .at) out c → c ≡ true → q ≡ sends (v .label) → LeadsAlone s st q u message m out f after
+      → LeadsOne s st v u message m out f after
+  one-alone acts so e leads = record {
+    exact = λ S h x p a moving own leading.
+        let t = own-thread h p a moving leading in
+        leads .exact v S h x p a moving e own
+        (acts .exact so (p .thread) (rw (sym (ap (λ w. w .at) own)) at (t .recorded .stands))) leading;
+  }
+
+  pub one-named : Leads s st v message m out f after → LeadsOne s st v u message m out f after
+  one-named leads = record { exact = λ S h x p a moving own leading. leads .exact S h x (alone p a) moving leading }
+
+pub ruleset ones = (one-alone, one-named)
+
+-- The steps of a label.
+module _ {s message m out after : List ℕ} {st : code.State} {v : step.Step} {f : Formed} where
+  leads-one : (label : Label) (who : step.Step → Actor) → ¬ (Silent ≡ label)
+      → ((p : Spot) (a : Acting) → stepOf (st .start) (alone p a) .label ≡ label → who (stepOf (st .start) (alone p a)) ≡ actor (st .start) p a)
+      → v .label ≡ label → LeadsOne s st v (who v) message m out f after → Leads s st v message m out f after
+  unfolding stepOf
+  leads-one label who loud acts e leads = record { exact = λ S h x w moving leading. of S h x w moving leading }
+    where
+      of : (S : State) (h : Held s out st S) (x : Message) (w : Move) → Moving s out st S h v x w message → Leading s st S m out
+          → Forms s (st .end) (arrivalOf S (outcome (h .at .placed) (S .next) x w)) f after
+      of S h x (alone p a) moving leading =
+          leads .exact S h x p a moving (ap who (moving .same) ∙ acts p a (sym (ap (λ (w : step.Step). w .label) (moving .same)) ∙ e)) leading
+      of S h x (inside p j) moving leading = absurd (loud (sym (ap (λ (w : step.Step). w .label) (moving .same)) ∙ e))
+      of S h x (between p q w) moving leading = absurd (loud (sym (ap (λ (w : step.Step). w .label) (moving .same)) ∙ e))
+
+  pub leads-output : v .label ≡ Output → LeadsOne s st v (v .sender) message m out f after → Leads s st v message m out f after
+  leads-output = leads-one Output (λ w. w .sender) (λ e. let z : _≡_ {A = ℕ} 0 1 = cc in omega arith) (sender-alone (st .start))
+
+  pub leads-input : v .label ≡ Input → LeadsOne s st v (v .taker) message m out f after → Leads s st v message m out f after
+  leads-input = leads-one Input (λ w. w .taker) (λ e. let z : _≡_ {A = ℕ} 0 1 = cc in omega arith) (taker-alone (st .start))
+
+pub ruleset labels = (leads-output, leads-input)

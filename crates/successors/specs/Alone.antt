@@ -1,0 +1,65 @@
+-- The state that an output or an input of a thread leads to that acts itself ("Steps"; "Judging and its count"). Assumes nothing.
+use mathlib.Core.Path.{_≡_}
+use mathlib.Core.Bool.{Bool, true, false}
+use mathlib.Core.List.{List, _∷_, _++_}
+use Prim.Native.Nat.{ℕ, _+_, _≤_}
+use lib.ListN.{length, getD}
+use Rattle.meaning.specs.Messages.Term.{Message}
+use Rattle.meaning.specs.Steps.State.{State}
+use Rattle.meaning.specs.Bytes.Standing.{Stands}
+use Rattle.nodes.specs.Encoding.{numberAt}
+use Rattle.states.specs.Record.{Placed, encodeRecord}
+use Rattle.states.specs.Course.{Going, Course, further}
+use Rattle.states.specs.Shown.{Shows, ShowsCourse}
+use Rattle.states.specs.declared.state.State as code
+use Rattle.states.specs.declared.progress.Progress.{Progress}
+use Rattle.forms.specs.Form.{Forms}
+use Rattle.forms.specs.Visit.{Labelled}
+use Rattle.forms.specs.declared.form.Formed.{Formed}
+use Rattle.positions.specs.Located.{Acting}
+use Rattle.positions.specs.Rebuilt.{pushAll}
+use Rattle.moves.specs.Spot.{Spot, recordAt}
+use Rattle.moves.specs.Moves.{alone}
+use Rattle.moves.specs.Outcome.{outcome, arrivalOf}
+use Rattle.moves.specs.Threads.{Threads}
+use Rattle.moves.specs.CopyOffers.{ThreadAt}
+use Rattle.moves.specs.Step.{actor}
+use Rattle.moves.specs.Held.{Held}
+use Rattle.moves.specs.Moving.{Leading, Moving}
+use Rattle.moves.specs.declared.step.Step as step
+use Rattle.moves.specs.declared.step.Actor.{Actor}
+use Rattle.successors.specs.Tasks.{sends}
+use Rattle.successors.specs.Bare.{behindSpot}
+
+-- If the answer is yes, whatever thread has its record there is no repl.
+pub record Acts (s : List ℕ) (at : ℕ) (out : List ℕ) (b : Bool) : Type 0 where
+  pub exact : b ≡ true → (t : Placed) {next : ℕ} → Stands out at (encodeRecord t) next → getD s (t .place) 0 ≡ 7 → ⊥
+
+-- The threads before one, what follows it, and those behind it.
+abbrev pub replacedBy : Message → Spot → Going → Course
+replacedBy y p g = further (further (pushAll (p .before) g) (behindSpot y p)) (pushAll (p .behind))
+
+-- Whatever thread has its record from a position to another, below the state that is being written: so all are written. A walk that goes no
+-- further is left as it is.
+pub record Replaces (s : List ℕ) (st : code.State) (at next : ℕ) (message m out : List ℕ) (now r : Progress) (after : List ℕ) : Type 0 where
+  pub stopped : now .going ≡ false → r ≡ now
+  pub exact : (p : Spot) (y : Message) (g : Going) {k : ℕ} → Threads s out (st .start) k (p .before ++ (p .thread ∷ p .behind)) (st .end)
+      → at ≡ recordAt (st .start) p → next ≡ at + length (encodeRecord (p .thread)) → ThreadAt s out m at k (st .end) (p .thread)
+      → Labelled message y → g .names ≤ 28664 → st .end ≤ now .state .end → Shows s out now g → ShowsCourse s after r (replacedBy y p g)
+
+-- Whatever step of such a thread this is: the state that it leads to.
+pub record LeadsAlone (s : List ℕ) (st : code.State) (q : Bool) (u : Actor) (message m out : List ℕ) (r : Formed) (after : List ℕ) : Type 0 where
+  pub exact : (v : step.Step) (S : State) (h : Held s out st S) (x : Message) (p : Spot) (a : Acting)
+      → Moving s out st S h v x (alone p a) message → q ≡ sends (v .label) → u ≡ actor (st .start) p a → (getD s (p .thread .place) 0 ≡ 7 → ⊥)
+      → Leading s st S m out → Forms s (st .end) (arrivalOf S (outcome (h .at .placed) (S .next) x (alone p a))) r after
+
+-- The same, if the record of the thread ends there.
+pub record LeadsUntil (s : List ℕ) (st : code.State) (q : Bool) (u : Actor) (next : ℕ) (message m out : List ℕ) (r : Formed) (after : List ℕ)
+    : Type 0 where
+  pub exact : {n : ℕ} → n ≡ numberAt out (u .at + 2) → next ≡ u .at + 4 + n → LeadsAlone s st q u message m out r after
+
+-- Whatever step of one thread this is, which is the actor.
+pub record LeadsOne (s : List ℕ) (st : code.State) (v : step.Step) (u : Actor) (message m out : List ℕ) (r : Formed) (after : List ℕ) : Type 0 where
+  pub exact : (S : State) (h : Held s out st S) (x : Message) (p : Spot) (a : Acting) → Moving s out st S h v x (alone p a) message
+      → u ≡ actor (st .start) p a → Leading s st S m out
+      → Forms s (st .end) (arrivalOf S (outcome (h .at .placed) (S .next) x (alone p a))) r after
