@@ -39,6 +39,12 @@ pub record TakesBehind (s label : List ℕ) (at : ℕ) (m : List ℕ) (end : ℕ
       → Ready s label at 64 m end Settle (Process.act (input C) P) x ρ g → Shows s out now g
       → ShowsCourse s after r (go P Settle x (bodyAt at C) (ρ ▸ x) g)
 
+-- Behind whatever output or input stands there, under the message of the label too if it is an input.
+pub record SettlesRest (s label : List ℕ) (at : ℕ) (m : List ℕ) (end : ℕ) (out : List ℕ) (now r : Progress) (after : List ℕ) : Type 0 where
+  pub exact : (p : Prefix) (P : Process) (x : Message) (ρ : Bound) (g : Going)
+      → Ready s label at 64 m end Settle (Process.act p P) x ρ g → Shows s out now g
+      → ShowsCourse s after r (go P Settle x (restAt at p) (boundBehind p ρ x) g)
+
 -- Whatever thread has its record there, the same of what follows it.
 pub record Rests (s label : List ℕ) (at : ℕ) (m out : List ℕ) (now r : Progress) (after : List ℕ) : Type 0 where
   pub exact : (t : Placed) (x : Message) (g : Going) {next : ℕ} → RecordAt s out at t next → Labelled label x → length s ≤ 36864

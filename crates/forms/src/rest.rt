@@ -11,7 +11,7 @@ ghost use Prim.Native.Nat.{_+_, _≤_, _<_};
 ghost use lib.ListN.{length};
 ghost use Rattle.nodes.specs.Buffer.{Within};
 ghost use Rattle.states.specs.Progress.{Extends};
-ghost use Rattle.forms.specs.Rest.{SettlesBehind, TakesBehind, Rests};
+ghost use Rattle.forms.specs.Rest.{SettlesBehind, TakesBehind, SettlesRest, Rests};
 
 // The kinds of processes.
 const NIL: usize = 0;
@@ -79,6 +79,29 @@ fn receive(
     settle(s, label, at, m, last, out, done)
 }
 
+// What follows the output or the input at a position, under the messages that are bound up to the position end, and under the message of the
+// label too if it is an input.
+pub fn offer(
+    s: &[u8],
+    label: &[u8],
+    at: usize,
+    m: &mut [u8],
+    end: usize,
+    out: &mut [u8],
+    done: Progress,
+) -> Progress
+    requires { ⌜ (at < length (now s)) × (end ≤ length (now m)) × (length (now s) ≤ 36864) ⌝ }
+    ensures { λ r. ⌜ Extends done r ⌝ }
+    ensures { λ _. ⌜ Within end (length (now (m .entry))) (now (m .entry)) (now (m .exit)) ⌝ }
+    ensures { λ _. ⌜ Within (done .state .end) (length (now (out .entry))) (now (out .entry)) (now (out .exit)) ⌝ }
+    ensures { λ r. ⌜ SettlesRest (now (s .entry)) (now (label .entry)) at (now (m .entry)) end (now (out .entry)) done r (now (out .exit)) ⌝ }
+{
+    if node::wide(s[at]) == INPUT {
+        return receive(s, label, at, m, end, out, done);
+    }
+    settle(s, label, at, m, end, out, done)
+}
+
 // What follows the thread whose record stands at a position, settled behind what is written already, under the message of the label too if
 // it takes one. A repl thread is followed by nothing: the walk goes no further.
 pub fn rest(
@@ -101,12 +124,8 @@ pub fn rest(
     if s.len() <= place {
         return progress::stop(done);
     }
-    let kind = node::wide(s[place]);
-    if kind == REPL {
+    if node::wide(s[place]) == REPL {
         return progress::stop(done);
     }
-    if kind == INPUT {
-        return receive(s, label, place, m, end, out, done);
-    }
-    settle(s, label, place, m, end, out, done)
+    offer(s, label, place, m, end, out, done)
 }

@@ -1,9 +1,10 @@
--- What the index says of a process: where it ends, the last output and the last input that it offers at once, and how many private names it
--- takes if no message decides that ("Bytes"; "Steps"). Assumes nothing.
+-- What the index says of a process: where it ends, the last output and the last input that it offers at once, how many private names it
+-- takes if no message decides that, and how far it spreads ("Bytes"; "Steps"). Assumes nothing.
 use mathlib.Core.Path.{_≡_}
 use mathlib.Core.Bool.{Bool, true, false}
 use mathlib.Core.List.{List, [], _∷_}
 use Prim.Native.Nat.{ℕ, zero, suc, _+_, _-_, _≤_}
+use lib.Dec.{ltb}
 use lib.ListN.{length, getD}
 use Rattle.meaning.specs.Bytes.Process.{output, input, Process, nil, new, act, if, let-in, par, repl}
 use Rattle.meaning.specs.Bytes.Encoding.{encodeTerm, encodeProcess}
@@ -43,36 +44,56 @@ fixedNames (let-in M P) = 0
 fixedNames (par P Q) = together (fixedNames P) (fixedNames Q)
 fixedNames (repl P) = 1
 
-abbrev pub entry : (end output input names : ℕ) → Entry
-entry e o i n = record { end = e; output = o; input = i; names = n }
+-- Two numbers together, but 33 at most: more than a state has threads.
+abbrev pub capped : (a b : ℕ) → ℕ
+capped a b = 33 - (33 - a - b)
+
+-- How many threads a process has at most after it was settled and one copy of each repl in it was opened, and how many private names it
+-- binds on the way, together; 33 if that is more than a state has room for, or if a `let` is met, since its message may be large.
+unfoldable pub spread : Process → ℕ
+spread nil = 0
+spread (new P) = capped 1 (spread P)
+spread (act p P) = 1
+spread (if M N P Q) = capped (spread P) (spread Q)
+spread (let-in M P) = 33
+spread (par P Q) = capped (spread P) (spread Q)
+spread (repl P) = capped 1 (spread P)
+
+-- A number of names as a byte has it: 0, so open, if it is too large for a byte. No state has so many private names.
+unfoldable pub short : ℕ → ℕ
+short n = elim (ltb 255 n) [ true ↦ 0 | false ↦ n ]
+
+abbrev pub entry : (end output input names spread : ℕ) → Entry
+entry e o i n k = record { end = e; output = o; input = i; names = n; spread = k }
 
 -- The entry of a process that stands at a position.
 abbrev pub entryOf : (at : ℕ) → Process → Entry
-entryOf at P = entry (at + length (encodeProcess P)) (lastOf true at P) (lastOf false at P) (fixedNames P)
+entryOf at P = entry (at + length (encodeProcess P)) (lastOf true at P) (lastOf false at P) (fixedNames P) (spread P)
 
 -- The entry of processes in a row.
 abbrev pub joined : (e f : Entry) → Entry
-joined e f = entry (f .end) (latest (e .output) (f .output)) (latest (e .input) (f .input)) (together (e .names) (f .names))
+joined e f =
+    entry (f .end) (latest (e .output) (f .output)) (latest (e .input) (f .input)) (together (e .names) (f .names)) (capped (e .spread) (f .spread))
 
 abbrev pub rowOf : (at : ℕ) → List Process → Entry
-rowOf at [] = entry at 0 0 1
+rowOf at [] = entry at 0 0 1 0
 rowOf at (P ∷ []) = entryOf at P
 rowOf at (P ∷ Q ∷ Ps) = joined (entryOf at P) (rowOf (at + length (encodeProcess P)) (Q ∷ Ps))
 
 -- The entry of a node at a position, from the one of its parts, by its kind: nil, new, output, input, if, let, par, repl.
-abbrev pub named : Entry → (names : ℕ) → Entry
-named e n = entry (e .end) (e .output) (e .input) n
+abbrev pub named : Entry → (names spread : ℕ) → Entry
+named e n k = entry (e .end) (e .output) (e .input) n k
 
 abbrev pub nodeEntries : (at : ℕ) → Entry → List Entry
 nodeEntries at e =
     e
-    ∷ named e (together 2 (e .names))
-    ∷ entry (e .end) (at + 1) 0 1
-    ∷ entry (e .end) 0 (at + 1) 1
-    ∷ named e 0
-    ∷ named e 0
+    ∷ named e (together 2 (e .names)) (capped 1 (e .spread))
+    ∷ entry (e .end) (at + 1) 0 1 1
+    ∷ entry (e .end) 0 (at + 1) 1 1
+    ∷ named e 0 (e .spread)
+    ∷ named e 0 33
     ∷ e
-    ∷ named e 1
+    ∷ named e 1 (capped 1 (e .spread))
     ∷ []
 
 abbrev pub nodeOf : (kind at : ℕ) → Entry → Entry
@@ -84,6 +105,7 @@ pub record Small (e : Entry) : Type 0 where
   pub output : e .output ≤ 4096
   pub input : e .input ≤ 4096
   pub names : e .names ≤ 4096
+  pub spread : e .spread ≤ 33
 
 pub record IsLarge (e : Entry) (r : Bool) : Type 0 where
   pub yes : r ≡ true → Small e → ⊥

@@ -1,6 +1,6 @@
 -- The index of a model: an entry for each of its processes ("Bytes"). Assumes nothing.
 use mathlib.Core.Path.{_≡_}
-use mathlib.Core.List.{List, [], _∷_}
+use mathlib.Core.List.{List, [], _∷_, _++_}
 use mathlib.Core.Bool.{Bool}
 use Prim.Native.Nat.{ℕ, _+_, _*_, _≤_, _<_}
 use lib.ListN.{length, getD}
@@ -13,18 +13,21 @@ use Rattle.nodes.specs.Buffer.{Within}
 use Rattle.nodes.specs.Encoding.{encodeNode}
 use Rattle.layouts.specs.Ends.{row}
 use Rattle.indexes.specs.declared.entry.Entry.{Entry}
-use Rattle.indexes.specs.Entry.{lastOf, fixedNames, entryOf, rowOf, Small}
+use Rattle.indexes.specs.Entry.{lastOf, fixedNames, spread, short, entryOf, rowOf, Small}
 
 -- Where the entry of a position stands.
 abbrev pub entryAt : ℕ → ℕ
 entryAt at = 4096 + 8 * at
 
--- The numbers of an entry, two bytes each.
+-- The numbers of an entry that have two bytes each, and those that have one, which stand behind them.
 abbrev pub numbersOf : Entry → List ℕ
-numbersOf e = e .end ∷ e .output ∷ e .input ∷ e .names ∷ []
+numbersOf e = e .end ∷ e .output ∷ e .input ∷ []
+
+abbrev pub bytesOf : Entry → List ℕ
+bytesOf e = short (e .names) ∷ e .spread ∷ []
 
 abbrev pub EntryOf : List ℕ → (at : ℕ) → Entry → Type 0
-EntryOf s at e = Stands s (entryAt at) (row encodeNode (numbersOf e)) (entryAt at + 8)
+EntryOf s at e = Stands s (entryAt at) (row encodeNode (numbersOf e) ++ bytesOf e) (entryAt at + 8)
 
 -- The entry of a position is the one of a process.
 abbrev pub Noted : List ℕ → (at : ℕ) → Process → Type 0
@@ -50,11 +53,14 @@ pub record InModel (s : List ℕ) (at : ℕ) (P : Process) (end : ℕ) : Type 0 
   pub indexed : Indexed s at P
   pub inside : end ≤ 4096
 
--- The answer is a number of the entry of such a process.
+-- The answer is a number of the entry of such a process: one of two bytes, or one of one byte.
 pub record Says (s : List ℕ) (at field r : ℕ) : Type 0 where
   pub same : (P : Process) {end : ℕ} → InModel s at P end → r ≡ getD (numbersOf (entryOf at P)) field 0
 
--- So it is where the process ends, the position after its last output or input, and its private names.
+pub record SaysByte (s : List ℕ) (at field r : ℕ) : Type 0 where
+  pub same : (P : Process) {end : ℕ} → InModel s at P end → r ≡ getD (bytesOf (entryOf at P)) field 0
+
+-- So it is where the process ends, the position after its last output or input, its private names, and how far it spreads.
 pub record Ends (s : List ℕ) (at r : ℕ) : Type 0 where
   pub same : (P : Process) {end : ℕ} → InModel s at P end → r ≡ end
 
@@ -62,7 +68,10 @@ pub record Lasts (s : List ℕ) (at : ℕ) (out : Bool) (r : ℕ) : Type 0 where
   pub same : (P : Process) {end : ℕ} → InModel s at P end → r ≡ lastOf out at P
 
 pub record Fixes (s : List ℕ) (at r : ℕ) : Type 0 where
-  pub same : (P : Process) {end : ℕ} → InModel s at P end → r ≡ fixedNames P
+  pub same : (P : Process) {end : ℕ} → InModel s at P end → r ≡ short (fixedNames P)
+
+pub record Spreads (s : List ℕ) (at r : ℕ) : Type 0 where
+  pub same : (P : Process) {end : ℕ} → InModel s at P end → r ≡ spread P
 
 -- Two numbers are written, and nothing else.
 pub record Writes (s : List ℕ) (at v w : ℕ) (after : List ℕ) : Type 0 where

@@ -1,33 +1,42 @@
 // What the index says of a process, and of processes in a row ("Bytes"; "Steps").
 ghost use mathlib.Core.Path.{_≡_};
 ghost use Prim.Native.Nat.{_<_};
-ghost use Rattle.indexes.specs.Entry.{latest, entry, named, Together, Joins, IsNode, IsLarge};
+ghost use Rattle.indexes.specs.Entry.{latest, capped, short, entry, named, Together, Joins, IsNode, IsLarge};
 
 // How many bytes are kept for the model.
 pub(crate) const MODEL: usize = 4096;
 
+// The most that a spread says: more than a state has threads.
+pub(crate) const MOST: usize = 33;
+
+// The most that a byte holds.
+const BYTE: usize = 255;
+
 // Where a process ends; the position after the kind of the last output that it offers at once, in whatever branch and in copies too, and the
-// same of inputs, 0 if there is none; and how many private names it takes, and one more, or 0 if a message decides that.
+// same of inputs, 0 if there is none; how many private names it takes, and one more, or 0 if a message decides that; and how far it spreads:
+// the threads that it has at most after it was settled and one copy of each repl in it was opened, and the private names on the way.
 pub(crate) struct Entry {
     pub end: usize,
     pub output: usize,
     pub input: usize,
     pub names: usize,
+    pub spread: usize,
 }
 
 // The entry of no process.
 pub(crate) fn none(at: usize) -> Entry
-    ensures { λ r. ⌜ r ≡ entry at 0 0 1 ⌝ }
+    ensures { λ r. ⌜ r ≡ entry at 0 0 1 0 ⌝ }
 {
     Entry {
         end: at,
         output: 0,
         input: 0,
         names: 1,
+        spread: 0,
     }
 }
 
-// Whether a number is above those of the positions of the model.
+// Whether a number is above those of the positions of the model, or the spread above the most.
 pub(crate) fn large(entry: Entry) -> bool
     ensures { λ r. ⌜ IsLarge entry r ⌝ }
 {
@@ -41,6 +50,9 @@ pub(crate) fn large(entry: Entry) -> bool
         return true;
     }
     if MODEL < entry.names {
+        return true;
+    }
+    if MOST < entry.spread {
         return true;
     }
     false
@@ -72,6 +84,30 @@ fn together(a: usize, b: usize) -> usize
     a + b - 1
 }
 
+// Two numbers together, but 33 at most.
+fn capped(a: usize, b: usize) -> usize
+    ensures { λ r. ⌜ r ≡ capped a b ⌝ }
+{
+    if MOST <= a {
+        return MOST;
+    }
+    if MOST - a <= b {
+        return MOST;
+    }
+    a + b
+}
+
+// A number of names as a byte has it: 0, so open, if it is too large for a byte.
+pub(crate) fn short(names: usize) -> usize
+    ensures { λ r. ⌜ r < 256 ⌝ }
+    ensures { λ r. ⌜ r ≡ short names ⌝ }
+{
+    if BYTE < names {
+        return 0;
+    }
+    names
+}
+
 // The entry of two processes in a row.
 pub(crate) fn joined(first: Entry, second: Entry) -> Entry
     ensures { λ r. ⌜ Joins first second r ⌝ }
@@ -81,18 +117,20 @@ pub(crate) fn joined(first: Entry, second: Entry) -> Entry
         output: latest(first.output, second.output),
         input: latest(first.input, second.input),
         names: together(first.names, second.names),
+        spread: capped(first.spread, second.spread),
     }
 }
 
-// An entry with other names.
-fn named(entry: Entry, names: usize) -> Entry
-    ensures { λ r. ⌜ r ≡ named entry names ⌝ }
+// An entry with other names and another spread.
+fn named(entry: Entry, names: usize, spread: usize) -> Entry
+    ensures { λ r. ⌜ r ≡ named entry names spread ⌝ }
 {
     Entry {
         end: entry.end,
         output: entry.output,
         input: entry.input,
         names: names,
+        spread: spread,
     }
 }
 
@@ -103,22 +141,24 @@ pub(crate) fn node(kind: usize, at: usize, inner: Entry) -> Entry
 {
     match kind {
         0 => inner, // nil
-        1 => named(inner, together(2, inner.names)), // new
+        1 => named(inner, together(2, inner.names), capped(1, inner.spread)), // new
         2 => Entry {
             end: inner.end,
             output: at + 1,
             input: 0,
             names: 1,
+            spread: 1,
         }, // output
         3 => Entry {
             end: inner.end,
             output: 0,
             input: at + 1,
             names: 1,
+            spread: 1,
         }, // input
-        4 => named(inner, 0), // if
-        5 => named(inner, 0), // let
+        4 => named(inner, 0, inner.spread), // if
+        5 => named(inner, 0, MOST), // let
         6 => inner, // par
-        _ => named(inner, 1), // repl
+        _ => named(inner, 1, capped(1, inner.spread)), // repl
     }
 }

@@ -1,5 +1,5 @@
 // The index of a model ("Bytes"): the model stands in the first 4,096 bytes of a slice, and behind them the entry of each position, eight
-// bytes, says what is to be known of the process that stands there.
+// bytes, says what is to be known of the process that stands there: three numbers in two bytes each, and two in one byte each.
 use crate::entry;
 use crate::entry::Entry;
 use layouts::ends;
@@ -11,26 +11,29 @@ ghost use mathlib.Core.Path.{_≡_};
 ghost use Prim.Native.Nat.{_+_, _≤_, _<_};
 ghost use lib.ListN.{length};
 ghost use Rattle.nodes.specs.Buffer.{Within};
-ghost use Rattle.indexes.specs.Index.{Says, Ends, Lasts, Fixes, Writes, Notes, Indexes, IndexesRow, Builds};
+ghost use Rattle.indexes.specs.Index.{Says, SaysByte, Ends, Lasts, Fixes, Spreads, Writes, Notes, Indexes, IndexesRow, Builds};
 
 // How many bytes there are with the index.
 pub const LENGTH: usize = 36864;
 
-// The numbers of an entry, in their order.
+// The numbers of an entry that have two bytes, in their order.
 const END: usize = 0;
 
 const OUTPUT: usize = 1;
 
 const INPUT: usize = 2;
 
-const NAMES: usize = 3;
+// Those that have one byte and stand behind them, in their order.
+const NAMES: usize = 0;
+
+const SPREAD: usize = 1;
 
 // The most process nodes on one path.
 const NODES: usize = 64;
 
-// A number of the entry of a position.
+// A number of two bytes in the entry of a position.
 fn number(s: &[u8], at: usize, field: usize) -> usize
-    requires { ⌜ field < 4 ⌝ }
+    requires { ⌜ field < 3 ⌝ }
     ensures { λ r. ⌜ r < 65536 ⌝ }
     ensures { λ r. ⌜ Says (now (s .entry)) at field r ⌝ }
 {
@@ -42,6 +45,22 @@ fn number(s: &[u8], at: usize, field: usize) -> usize
         return 0;
     }
     node::number(s, entry + 2 * field)
+}
+
+// A number of one byte there, or another one where no entry can stand.
+fn byte(s: &[u8], at: usize, field: usize, none: usize) -> usize
+    requires { ⌜ (field < 2) × (none < 256) ⌝ }
+    ensures { λ r. ⌜ r < 256 ⌝ }
+    ensures { λ r. ⌜ SaysByte (now (s .entry)) at field r ⌝ }
+{
+    if entry::MODEL <= at {
+        return none;
+    }
+    let behind = entry::MODEL + 8 * at + 6;
+    if s.len() < behind + 2 {
+        return none;
+    }
+    node::wide(s[behind + field])
 }
 
 // The end of the process at a position, if one stands there that the index has.
@@ -66,12 +85,21 @@ pub fn last(s: &[u8], at: usize, output: bool) -> usize
     number(s, at, INPUT)
 }
 
-// How many private names settling such a process takes, and one more; 0 if a message decides that.
+// How many private names settling such a process takes, and one more; 0 if a message decides that, or if they are above 254, which are more
+// than a state has.
 pub fn names(s: &[u8], at: usize) -> usize
-    ensures { λ r. ⌜ r < 65536 ⌝ }
+    ensures { λ r. ⌜ r < 256 ⌝ }
     ensures { λ r. ⌜ Fixes (now (s .entry)) at r ⌝ }
 {
-    number(s, at, NAMES)
+    byte(s, at, NAMES, 0)
+}
+
+// How far such a process spreads; 33 where no entry can stand, as if there were no room for it.
+pub fn spread(s: &[u8], at: usize) -> usize
+    ensures { λ r. ⌜ r < 256 ⌝ }
+    ensures { λ r. ⌜ Spreads (now (s .entry)) at r ⌝ }
+{
+    byte(s, at, SPREAD, entry::MOST)
 }
 
 // Writes two numbers at a position.
@@ -84,7 +112,7 @@ fn write(s: &mut [u8], at: usize, first: usize, second: usize)
     node::write(s, at + 2, second);
 }
 
-// Notes the entry of a position.
+// Notes the entry of a position. Its last two bytes are written as one number, the lower byte first.
 fn note(s: &mut [u8], at: usize, entry: Entry)
     requires { ⌜ length (now s) ≡ 36864 ⌝ }
     ensures { λ _. ⌜ Within 4096 36864 (now (s .entry)) (now (s .exit)) ⌝ }
@@ -98,7 +126,12 @@ fn note(s: &mut [u8], at: usize, entry: Entry)
     }
     let place = entry::MODEL + 8 * at;
     write(s, place, entry.end, entry.output);
-    write(s, place + 4, entry.input, entry.names);
+    write(
+        s,
+        place + 4,
+        entry.input,
+        entry::short(entry.names) + 256 * entry.spread,
+    );
 }
 
 // Notes the entries of the process at a position and of all that is in it, with so many nodes left on its path; the answer is its own.

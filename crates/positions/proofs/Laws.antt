@@ -15,6 +15,8 @@ pub mod Find
 pub mod Everywhere
 pub mod Leads
 pub mod Rebuilt
+pub mod Spread
+pub mod SpreadRoom
 pub mod Writing
 pub mod Marks
 pub mod Walking

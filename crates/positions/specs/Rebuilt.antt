@@ -5,17 +5,21 @@ use mathlib.Core.List.{List, [], _∷_}
 use Rattle.meaning.specs.Bytes.Process.{Process}
 use Rattle.meaning.specs.Steps.State.{Bound, Thread, names, settle}
 use Rattle.meaning.specs.Logic.Truth.{anyOf}
-use Rattle.meaning.specs.Judging.Limits.{overSettling, overOffers}
+use Rattle.meaning.specs.Judging.Limits.{overSettling, overOffers, threadNodes}
 use Rattle.states.specs.Place.{restAt}
 use Rattle.states.specs.Record.{Placed}
 use Rattle.states.specs.Course.{Going, Course, going, further, push}
 use Rattle.positions.specs.Located.{Acting, replacedAs}
 use Rattle.positions.specs.Joint.{Joint, bothReplacedAs, leftAs}
-use Rattle.walks.specs.Settled.{settledAt}
+use Rattle.walks.specs.Settled.{settledAt, threadsOf}
 
 -- A thread with its position, by itself.
 abbrev pub alone : ℕ → Thread → List Placed
 alone at t = record { place = at; thread = t } ∷ []
+
+-- The nodes of threads with positions.
+abbrev pub nodesOf : List Placed → ℕ
+nodesOf ps = threadNodes (threadsOf ps)
 
 -- As `replaced`, `bothReplaced` and `left`, each thread with its position.
 abbrev pub placedAt : ℕ → Thread → Placed

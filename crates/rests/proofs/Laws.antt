@@ -4,3 +4,4 @@ pub mod Rests
 pub mod RestsMoves
 pub mod RestsThread
 pub mod RestsSettled
+pub mod Settled

@@ -1,3 +1,5 @@
-// The private names that the rests of a step take: what follows the threads that act, settled one after the other ("Steps").
+// What follows an offer, settled, and the private names that the rests of a step take: what follows the threads that act, settled one after
+// the other ("Steps").
 pub mod names;
 mod numbers;
+pub mod settled;

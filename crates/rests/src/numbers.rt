@@ -14,7 +14,14 @@ ghost use Rattle.rests.specs.Numbers.{Comes, Enters, Counts, CountsIn};
 const NODES: usize = 64;
 
 // From the thread whose record stands at a position down to the process at a mark, which may be its own. Copies open at a private name.
-fn arrive(s: &[u8], at: usize, opens: usize, m: &mut [u8], mark: usize, out: &[u8]) -> Way
+pub(crate) fn arrive(
+    s: &[u8],
+    at: usize,
+    opens: usize,
+    m: &mut [u8],
+    mark: usize,
+    out: &[u8],
+) -> Way
     requires { ⌜ (at + 4 ≤ length (now out)) × (length (now s) ≤ 36864) ⌝ }
     ensures { λ r. ⌜ r .end ≤ length (now (m .exit)) ⌝ }
     ensures { λ _. ⌜ Within 0 (length (now (m .entry))) (now (m .entry)) (now (m .exit)) ⌝ }

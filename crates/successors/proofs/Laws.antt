@@ -17,5 +17,7 @@ pub mod AloneForm
 pub mod AloneLead
 pub mod BareForm
 pub mod Light
+pub mod Own
+pub mod Excess
 pub mod LightMove
 pub mod Tasks

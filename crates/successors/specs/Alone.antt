@@ -15,6 +15,7 @@ use Rattle.states.specs.declared.state.State as code
 use Rattle.states.specs.declared.progress.Progress.{Progress}
 use Rattle.forms.specs.Form.{Forms}
 use Rattle.forms.specs.Visit.{Labelled}
+use Rattle.forms.specs.Rest.{settledBehind}
 use Rattle.forms.specs.declared.form.Formed.{Formed}
 use Rattle.positions.specs.Located.{Acting}
 use Rattle.positions.specs.Rebuilt.{pushAll}
@@ -29,11 +30,20 @@ use Rattle.moves.specs.Moving.{Leading, Moving}
 use Rattle.moves.specs.declared.step.Step as step
 use Rattle.moves.specs.declared.step.Actor.{Actor}
 use Rattle.successors.specs.Tasks.{sends}
-use Rattle.successors.specs.Bare.{behindSpot}
 
 -- If the answer is yes, whatever thread has its record there is no repl.
 pub record Acts (s : List ℕ) (at : ℕ) (out : List ℕ) (b : Bool) : Type 0 where
   pub exact : b ≡ true → (t : Placed) {next : ℕ} → Stands out at (encodeRecord t) next → getD s (t .place) 0 ≡ 7 → ⊥
+
+-- What follows the thread at a spot.
+abbrev pub behindSpot : Message → Spot → Going → Course
+behindSpot y p g = settledBehind (p .thread .thread) (p .thread .place) y g
+
+-- Whatever thread has its record there: what follows it is settled. A walk that goes no further is left as it is.
+pub record Follows (s : List ℕ) (to at : ℕ) (message m out : List ℕ) (now r : Progress) (after : List ℕ) : Type 0 where
+  pub stopped : now .going ≡ false → (r ≡ now) × (after ≡ out)
+  pub exact : (t : Placed) (y : Message) (g : Going) {k : ℕ} → ThreadAt s out m at k to t → Labelled message y → g .names ≤ 28664
+      → Shows s out now g → ShowsCourse s after r (settledBehind (t .thread) (t .place) y g)
 
 -- The threads before one, what follows it, and those behind it.
 abbrev pub replacedBy : Message → Spot → Going → Course

@@ -1,30 +1,35 @@
--- The state that a step leads to without its threads, and what follows the threads that act, settled by itself ("Judging and its count").
+-- The state that a step leads to without its threads, and what follows the processes that act, settled by itself ("Judging and its count").
 -- Assumes nothing.
 use mathlib.Core.Path.{_≡_}
 use mathlib.Core.Bool.{Bool, true, false}
-use mathlib.Core.List.{List, []}
+use mathlib.Core.List.{List, [], _∷_, _++_}
 use Prim.Native.Nat.{ℕ, _+_, _≤_}
 use Rattle.meaning.specs.Messages.Term.{Message}
 use Rattle.meaning.specs.Steps.State.{State}
 use Rattle.meaning.specs.Judging.Visits.{Arrival, arrived}
-use Rattle.states.specs.Record.{Placed}
+use Rattle.states.specs.Place.{restAt}
 use Rattle.states.specs.Course.{Going, Course, over-limit, further}
 use Rattle.states.specs.Shown.{Shows, ShowsCourse}
 use Rattle.states.specs.declared.state.State as code
 use Rattle.states.specs.declared.progress.Progress.{Progress}
 use Rattle.forms.specs.Form.{StateAt, overArrival}
 use Rattle.forms.specs.Visit.{nothingYet, Labelled}
-use Rattle.forms.specs.Rest.{settledBehind}
 use Rattle.forms.specs.declared.form.Formed.{Formed}
 use Rattle.forms.specs.declared.form.Formed.the-variants.{At}
-use Rattle.moves.specs.Spot.{Spot}
+use Rattle.threads.specs.declared.task.Task.the-variants.{Settle}
+use Rattle.walks.specs.Walking.{go}
+use Rattle.positions.specs.Located.{Acting}
+use Rattle.moves.specs.Spot.{Spot, recordAt, offersOf}
 use Rattle.moves.specs.Moves.{Move, alone, inside, between}
-use Rattle.moves.specs.Outcome.{outcome, arrivalOf}
+use Rattle.moves.specs.Outcome.{boundAfter, outcome, arrivalOf}
 use Rattle.moves.specs.CopyOffers.{ThreadAt}
+use Rattle.moves.specs.Step.{actor}
 use Rattle.moves.specs.Held.{Held}
 use Rattle.moves.specs.Moving.{carried, Leading, Moving}
 use Rattle.moves.specs.declared.step.Step as step
+use Rattle.moves.specs.declared.step.Actor.{Actor}
 use Rattle.moves.specs.declared.step.Label.the-variants.{Silent}
+use Rattle.successors.specs.declared.excess.Excess.{Excess}
 
 -- The same state without its threads.
 abbrev pub bareOf : Arrival → Arrival
@@ -35,40 +40,47 @@ pub data StandsFor : (quiet : Bool) → Arrival → Arrival → Type 0 where
   itself : {quiet : Bool} {A : Arrival} → StandsFor quiet A A
   bare : {A : Arrival} → overArrival A ≡ false → StandsFor true A (bareOf A)
 
--- What follows the thread at a spot.
-abbrev pub behindSpot : Message → Spot → Going → Course
-behindSpot y p g = settledBehind (p .thread .thread) (p .thread .place) y g
+-- What follows the process of an offer, settled, y being the message that goes.
+abbrev pub restFrom : Message → Acting → Going → Course
+restFrom y a g = go (a .rest) Settle y (restAt (a .place) (a .prefix)) (boundAfter y a) g
 
--- What follows the threads that act in a step, y being the message that goes. Those that act in copies are left out.
-unfoldable pub restsOf : Message → Move → Course
-restsOf y (alone p a) = behindSpot y p (nothingYet (a .next))
-restsOf y (inside p w) = over-limit
-restsOf y (between p q w) = further (behindSpot y p (nothingYet (w .taker .next))) (behindSpot y q)
+-- What follows the processes that act in a step. Those of the copies of one thread are left out.
+unfoldable pub settledRests : Message → Move → Course
+settledRests y (alone p a) = restFrom y a (nothingYet (a .next))
+settledRests y (inside p w) = over-limit
+settledRests y (between p q w) = further (restFrom y (w .sender) (nothingYet (w .taker .next))) (restFrom y (w .taker))
 
--- Whatever thread has its record there: what follows it is settled. A walk that goes no further is left as it is.
-pub record Follows (s : List ℕ) (to at : ℕ) (message m out : List ℕ) (now r : Progress) (after : List ℕ) : Type 0 where
-  pub stopped : now .going ≡ false → (r ≡ now) × (after ≡ out)
-  pub exact : (t : Placed) (y : Message) (g : Going) {k : ℕ} → ThreadAt s out m at k to t → Labelled message y → g .names ≤ 28664
-      → Shows s out now g → ShowsCourse s after r (settledBehind (t .thread) (t .place) y g)
+-- Whatever offer of a thread of the state acts, copies being opened at k: what follows it is settled. A walk that goes no further is left as
+-- it is.
+pub record FollowsOffer (s : List ℕ) (st : code.State) (v : Actor) (k : ℕ) (message m out : List ℕ) (now r : Progress) (after : List ℕ) : Type 0
+  where
+    pub stopped : now .going ≡ false → (r ≡ now) × (after ≡ out)
+    pub exact : (p : Spot) (a : Acting) (y : Message) (g : Going) (before behind : List Acting) {j : ℕ}
+        → ThreadAt s out m (recordAt (st .start) p) j (st .end) (p .thread) → Labelled message y → j ≤ k → k ≤ 28664 → g .names ≤ 28664
+        → offersOf (p .thread) k ≡ before ++ (a ∷ behind) → v ≡ actor (st .start) p a → Shows s out now g → ShowsCourse s after r (restFrom y a g)
 
--- Whatever step of whatever state this is: what follows its threads is settled.
+-- Whatever step of whatever state this is: what follows the processes that act is settled.
 pub record Settles (s : List ℕ) (st : code.State) (v : step.Step) (message m out : List ℕ) (r : Progress) (after : List ℕ) : Type 0 where
   pub exact : (S : State) (h : Held s out st S) (x : Message) (w : Move) → Moving s out st S h v x w message → Leading s st S m out
-      → ShowsCourse s after r (restsOf (carried x w) w)
+      → ShowsCourse s after r (settledRests (carried x w) w)
 
 -- The same for a silent step.
 pub record SettlesBoth (s : List ℕ) (st : code.State) (v : step.Step) (message m out : List ℕ) (r : Progress) (after : List ℕ) : Type 0 where
   pub exact : v .label ≡ Silent → Settles s st v message m out r after
 
--- If it fits, there is room for it in the state that is left, and for a message of so many bytes.
-pub record Room (st : code.State) (r : Progress) (size : ℕ) : Type 0 where
+-- Four numbers together are within a limit.
+pub record Bounds (limit a b c d : ℕ) (r : Bool) : Type 0 where
+  pub exact : r ≡ true → a + b + c + d ≤ limit
+
+-- If it fits, there is room for it in the state that is left, for what the copies add, and for a message of so many bytes.
+pub record Room (st : code.State) (e : Excess) (r : Progress) (size : ℕ) : Type 0 where
   pub on : r .going ≡ true
-  pub threads : st .threads + r .state .threads ≤ 32
-  pub nodes : st .nodes + r .state .nodes + size ≤ 1024
+  pub threads : st .threads + e .threads + r .state .threads ≤ 32
+  pub nodes : st .nodes + e .nodes + r .state .nodes + size ≤ 1024
   pub names : r .names ≤ 128
 
-pub record Fits (st : code.State) (r : Progress) (size : ℕ) (b : Bool) : Type 0 where
-  pub room : b ≡ true → Room st r size
+pub record Fits (st : code.State) (e : Excess) (r : Progress) (size : ℕ) (b : Bool) : Type 0 where
+  pub room : b ≡ true → Room st e r size
 
 -- If a state is formed, the one that the step leads to is within its limits, and this is that state without its threads.
 pub record FormsBare (s : List ℕ) (st : code.State) (v : step.Step) (message m out : List ℕ) (r : Formed) (after : List ℕ) : Type 0 where

@@ -1,5 +1,6 @@
 pub mod Lead
 pub mod Bare
+pub mod Excess
 pub mod Alone
 pub mod Rebuild
 pub mod Block

@@ -1,19 +1,20 @@
 // The state that an output or an input of a thread leads to that acts itself ("Steps"): what follows it is settled in its place, and the
 // others stay as they are.
-use crate::bare;
 use crate::block;
 use alias_lists::aliases;
 use forms::form;
 use forms::form::Formed;
+use forms::rest;
 use moves::step::Actor;
 use nodes::node;
+use states::progress;
 use states::progress::Progress;
 use states::state::State;
 ghost use Prim.Native.Nat.{_≤_};
 ghost use lib.ListN.{length};
 ghost use Rattle.nodes.specs.Buffer.{Within};
 ghost use Rattle.states.specs.Progress.{Extends};
-ghost use Rattle.successors.specs.Alone.{Acts, Replaces, LeadsUntil, LeadsAlone};
+ghost use Rattle.successors.specs.Alone.{Acts, Follows, Replaces, LeadsUntil, LeadsAlone};
 
 // The kind of a repl.
 const REPL: usize = 7;
@@ -36,6 +37,35 @@ pub(crate) fn acts(s: &[u8], to: usize, at: usize, out: &[u8]) -> bool
     node::wide(s[place]) != REPL
 }
 
+// What follows the thread of a state whose record stands at a position.
+fn follow(
+    s: &[u8],
+    to: usize,
+    at: usize,
+    message: &[u8],
+    m: &mut [u8],
+    out: &mut [u8],
+    done: Progress,
+) -> Progress
+    requires { ⌜ (length (now s) ≤ 36864) × (to ≤ length (now out)) ⌝ }
+    ensures { λ r. ⌜ Extends done r ⌝ }
+    ensures { λ _. ⌜ Within 0 (length (now (m .entry))) (now (m .entry)) (now (m .exit)) ⌝ }
+    ensures { λ _. ⌜ Within (done .state .end) (length (now (out .entry))) (now (out .entry)) (now (out .exit)) ⌝ }
+    ensures { λ r. ⌜ Follows (now (s .entry)) to at (now (message .entry)) (now (m .entry)) (now (out .entry)) done r (now (out .exit)) ⌝ }
+{
+    let going = done.going;
+    if !going {
+        return done;
+    }
+    if to < 4 {
+        return progress::stop(done);
+    }
+    if to - 4 < at {
+        return progress::stop(done);
+    }
+    rest::rest(s, message, at, m, out, done)
+}
+
 // The threads of a state, one of which acts, whose record stands from a position to another.
 fn replace(
     s: &[u8],
@@ -56,7 +86,7 @@ fn replace(
     let start = state.start;
     let end = state.end;
     let before = block::all(out, start, at, done);
-    let there = bare::follow(s, end, at, message, m, out, before);
+    let there = follow(s, end, at, message, m, out, before);
     block::all(out, next, end, there)
 }
 

@@ -1,13 +1,17 @@
 // The state that a step leads to, formed without its threads, for formulas that do not look at them ("Judging and its count"). What follows
-// the threads that act is settled by itself and counted, and so the state is seen to be within its limits; or it is left open.
+// the processes that act is settled by itself and counted, what their copies add is bounded, and so the state is seen to be within its
+// limits; or it is left open.
+use crate::excess;
+use crate::excess::Excess;
 use crate::tasks;
 use alias_lists::aliases;
 use forms::form;
 use forms::form::Formed;
-use forms::rest;
 use forms::visit;
+use moves::step::Actor;
 use moves::step::Label;
 use moves::step::Step;
+use rests::settled;
 use states::progress;
 use states::progress::Progress;
 use states::state::State;
@@ -15,38 +19,40 @@ ghost use Prim.Native.Nat.{_≤_};
 ghost use lib.ListN.{length};
 ghost use Rattle.nodes.specs.Buffer.{Within};
 ghost use Rattle.states.specs.Progress.{Extends};
-ghost use Rattle.successors.specs.Bare.{Follows, SettlesBoth, Settles, Fits, FormsBare};
+ghost use Rattle.successors.specs.Bare.{FollowsOffer, SettlesBoth, Settles, Bounds, Fits, FormsBare};
 
-// What follows the thread of a state whose record stands at a position, settled after what follows another.
-pub(crate) fn follow(
+// What follows the process that acts in a thread of a state, settled after what follows another. Its copies open at a private name.
+fn follow(
     s: &[u8],
-    to: usize,
-    at: usize,
+    state: State,
+    actor: Actor,
+    opens: usize,
     message: &[u8],
     m: &mut [u8],
     out: &mut [u8],
     done: Progress,
 ) -> Progress
-    requires { ⌜ (length (now s) ≤ 36864) × (to ≤ length (now out)) ⌝ }
+    requires { ⌜ (length (now s) ≤ 36864) × (state .end ≤ length (now out)) ⌝ }
     ensures { λ r. ⌜ Extends done r ⌝ }
     ensures { λ _. ⌜ Within 0 (length (now (m .entry))) (now (m .entry)) (now (m .exit)) ⌝ }
     ensures { λ _. ⌜ Within (done .state .end) (length (now (out .entry))) (now (out .entry)) (now (out .exit)) ⌝ }
-    ensures { λ r. ⌜ Follows (now (s .entry)) to at (now (message .entry)) (now (m .entry)) (now (out .entry)) done r (now (out .exit)) ⌝ }
+    ensures { λ r. ⌜ FollowsOffer (now (s .entry)) state actor opens (now (message .entry)) (now (m .entry)) (now (out .entry)) done r (now (out .exit)) ⌝ }
 {
     let going = done.going;
+    let at = actor.at;
     if !going {
         return done;
     }
-    if to < 4 {
+    if state.end < 4 {
         return progress::stop(done);
     }
-    if to - 4 < at {
+    if state.end - 4 < at {
         return progress::stop(done);
     }
-    rest::rest(s, message, at, m, out, done)
+    settled::behind(s, message, at, opens, m, actor.mark, out, done)
 }
 
-// What follows the two threads that act in a silent step, if they act themselves and not in their copies.
+// What follows the processes that act in a silent step, if they are in two threads.
 fn settle_both(
     s: &[u8],
     state: State,
@@ -66,13 +72,13 @@ fn settle_both(
     let end = state.end;
     let begun = visit::begin(end, taker.next);
     if mode == 0 {
-        let sent = follow(s, end, sender.at, message, m, out, begun);
-        return follow(s, end, taker.at, message, m, out, sent);
+        let sent = follow(s, state, sender, state.names, message, m, out, begun);
+        return follow(s, state, taker, sender.next, message, m, out, sent);
     }
     progress::stop(begun)
 }
 
-// What follows the threads that act in a step.
+// What follows the processes that act in a step.
 fn settle(
     s: &[u8],
     state: State,
@@ -93,8 +99,9 @@ fn settle(
     match label {
         Label::Output => follow(
             s,
-            end,
-            sender.at,
+            state,
+            sender,
+            state.names,
             message,
             m,
             out,
@@ -102,8 +109,9 @@ fn settle(
         ),
         Label::Input => follow(
             s,
-            end,
-            taker.at,
+            state,
+            taker,
+            state.names,
             message,
             m,
             out,
@@ -113,31 +121,45 @@ fn settle(
     }
 }
 
-// Whether what was settled, and a message of so many bytes, surely have room in a state, with the threads that it has.
-fn fits(state: State, rests: Progress, size: usize) -> bool
-    ensures { λ r. ⌜ Fits state rests size r ⌝ }
+// Whether four numbers together are within a limit.
+fn within(limit: usize, a: usize, b: usize, c: usize, d: usize) -> bool
+    ensures { λ r. ⌜ Bounds limit a b c d r ⌝ }
+{
+    if limit < a {
+        return false;
+    }
+    if limit - a < b {
+        return false;
+    }
+    if limit - a - b < c {
+        return false;
+    }
+    d <= limit - a - b - c
+}
+
+// Whether what was settled, a message of so many bytes and what the copies of a step add surely have room in a state, with the threads that
+// it has.
+fn fits(state: State, added: Excess, rests: Progress, size: usize) -> bool
+    ensures { λ r. ⌜ Fits state added rests size r ⌝ }
 {
     let going = rests.going;
-    let added = rests.state;
+    let settled = rests.state;
     if !going {
         return false;
     }
     if State::NAMES < rests.names {
         return false;
     }
-    if State::THREADS < state.threads {
-        return false;
+    if within(
+        State::THREADS,
+        state.threads,
+        added.threads,
+        settled.threads,
+        0,
+    ) {
+        return within(State::NODES, state.nodes, added.nodes, settled.nodes, size);
     }
-    if State::THREADS - state.threads < added.threads {
-        return false;
-    }
-    if State::NODES < state.nodes {
-        return false;
-    }
-    if State::NODES - state.nodes < added.nodes {
-        return false;
-    }
-    size <= State::NODES - state.nodes - added.nodes
+    false
 }
 
 // The state that a step leads to without its threads, if it is seen to be within its limits.
@@ -155,8 +177,12 @@ pub(crate) fn form(
     ensures { λ r. ⌜ FormsBare (now (s .entry)) state step (now (message .entry)) (now (m .entry)) (now (out .entry)) r (now (out .exit)) ⌝ }
 {
     let label = step.label;
+    let added = excess::of_step(s, state, step, out);
+    if State::THREADS < added.threads {
+        return Formed::OverLimit;
+    }
     let rests = settle(s, state, step, message, m, out);
-    if fits(state, rests, message.len()) {
+    if fits(state, added, rests, message.len()) {
         return form::finish(aliases::carry(state, tasks::sends(label), message, rests.names, out));
     }
     Formed::OverLimit

@@ -2,6 +2,7 @@
 mod alone;
 mod bare;
 mod block;
+mod excess;
 pub mod lead;
 mod rebuild;
 mod tasks;

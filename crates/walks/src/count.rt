@@ -18,7 +18,7 @@ pub enum Counted {
     OverLimit,
 }
 
-// The private name after those that the process at a position takes, and one more, if no message decides that; 0 otherwise.
+// The private name after those that the process at a position takes, and one more, if the index has their number; 0 otherwise.
 fn fixed(s: &[u8], at: usize, names: usize) -> usize
     ensures { λ r. ⌜ Fixed (now (s .entry)) at names r ⌝ }
 {

@@ -5,11 +5,12 @@ use Prim.Native.Nat.{ℕ, suc, _+_, _-_, _≤_, _<_}
 use native.Mathlib.Omega.{arith}
 use lib.ListN.{length, getD, length-append}
 use Rattle.meaning.specs.Messages.Term.{Message}
-use Rattle.meaning.specs.Bytes.Process.{output, input, Process}
-use Rattle.meaning.specs.Steps.State.{_▸_, Thread, act, repl}
+use Rattle.meaning.specs.Bytes.Process.{Prefix, output, input, Process}
+use Rattle.meaning.specs.Steps.State.{Bound, _▸_, Thread, act, repl}
 use Rattle.nodes.specs.Buffer.{Within}
 use Rattle.terms.specs.Bound.{BindsRun}
 use Rattle.terms.proofs.Theorems.{boundFurther}
+use Rattle.states.specs.Place.{restAt}
 use Rattle.states.specs.Record.{Placed, processOf, boundOf}
 use Rattle.states.specs.Course.{Going}
 use Rattle.states.specs.Shown.{Shows, ShowsCourse}
@@ -24,7 +25,7 @@ use Rattle.walks.specs.Walking.{go}
 use Rattle.walks.specs.Walk.{Ready, Walks}
 use Rattle.walks.proofs.Laws.Fits.{fits-none}
 use Rattle.forms.specs.Visit.{Labelled, RecordAt}
-use Rattle.forms.specs.Rest.{settledBehind, SettlesBehind, TakesBehind, Rests}
+use Rattle.forms.specs.Rest.{boundBehind, settledBehind, SettlesBehind, TakesBehind, SettlesRest, Rests}
 use Rattle.forms.proofs.Laws.Visit.{news-short, bound-short}
 
 -- Nil follows, or a process that is walked over.
@@ -72,6 +73,39 @@ module _ {s label m out : List ℕ} {at end : ℕ} {now r : Progress} where
   }
 
 pub ruleset takings = (label-long, no-room, taken-behind)
+
+-- An input takes the message of the label, an output none.
+module _ {s label m out after : List ℕ} {at end kind : ℕ} {now r : Progress} (e : kind ≡ getD s at 0) where
+  pub behind-input : kind ≡ 3 → TakesBehind s label at m end out now r after → SettlesRest s label at m end out now r after
+  behind-input z f = record { exact = of }
+    where
+      of : (p : Prefix) (P : Process) (x : Message) (ρ : Bound) (g : Going) → Ready s label at 64 m end Settle (Process.act p P) x ρ g
+          → Shows s out now g → ShowsCourse s after r (go P Settle x (restAt at p) (boundBehind p ρ x) g)
+      of (output C M) P x ρ g y d = absurd (omega (arith, e, process-kind (Process.act (output C M) P) (y .process) .0))
+      of (input C) P x ρ g y d = f .exact C P x ρ g y d
+
+  pub behind-output : (kind ≡ 3 → ⊥) → SettlesBehind s label at m end out now r after → SettlesRest s label at m end out now r after
+  behind-output z f = record { exact = of }
+    where
+      of : (p : Prefix) (P : Process) (x : Message) (ρ : Bound) (g : Going) → Ready s label at 64 m end Settle (Process.act p P) x ρ g
+          → Shows s out now g → ShowsCourse s after r (go P Settle x (restAt at p) (boundBehind p ρ x) g)
+      of (output C M) P x ρ g y d =
+          f .exact (output C M) P x ρ g (y .process .stands) (record {
+            next = y .next;
+            process = after-output C M P (y .process);
+            shallow = omega arith;
+            short = y .short;
+            labelled = y .labelled;
+            small = y .small;
+            normal = y .normal;
+            bound = y .bound;
+            room = omega (arith, y .room);
+            fits = fits-none Settle (g .names) P refl (omega (arith, y .fits .own));
+            meant = tt;
+          }) d
+      of (input C) P x ρ g y d = absurd (z (e ∙ process-kind (Process.act (input C) P) (y .process) .0))
+
+pub ruleset behind = (behind-input, behind-output)
 
 -- The thread is loaded, and it acts by itself or is a repl thread.
 module _ {s label m m₁ out : List ℕ} {at : ℕ} {l : Loaded} (loads : Loads out at l m₁) (w : Within 0 (l .end) m m₁) where
@@ -124,36 +158,12 @@ module _ {s label m m₁ out : List ℕ} {at : ℕ} {l : Loaded} (loads : Loads 
           of (act ρ (input C) P) x g y d = absurd (omega (arith, e, process-kind (Process.act (input C) P) (y .process) .0))
           of (repl ρ P) x g y d = o .over
 
-      pub rest-input : kind ≡ 3 → TakesBehind s label (l .place) m₁ (l .end) out now r after → Rests s label at m out now r after
-      rest-input z f = of-thread of
+      pub rest-acts : (kind ≡ 7 → ⊥) → SettlesRest s label (l .place) m₁ (l .end) out now r after → Rests s label at m out now r after
+      rest-acts n f = of-thread of
         where
           of : (u : Thread) (x : Message) (g : Going) → Ready s label (l .place) 64 m₁ (l .end) Settle (processOf u) x (boundOf u) g
               → Shows s out now g → ShowsCourse s after r (settledBehind u (l .place) x g)
-          of (act ρ (output C M) P) x g y d = absurd (omega (arith, e, process-kind (Process.act (output C M) P) (y .process) .0))
-          of (act ρ (input C) P) x g y d = f .exact C P x ρ g y d
-          of (repl ρ P) x g y d = absurd (omega (arith, e, process-kind (Process.repl P) (y .process) .0))
-
-      pub rest-output : (kind ≡ 7 → ⊥) → (kind ≡ 3 → ⊥) → SettlesBehind s label (l .place) m₁ (l .end) out now r after
-          → Rests s label at m out now r after
-      rest-output n z f = of-thread of
-        where
-          of : (u : Thread) (x : Message) (g : Going) → Ready s label (l .place) 64 m₁ (l .end) Settle (processOf u) x (boundOf u) g
-              → Shows s out now g → ShowsCourse s after r (settledBehind u (l .place) x g)
-          of (act ρ (output C M) P) x g y d =
-              f .exact (output C M) P x ρ g (y .process .stands) (record {
-                next = y .next;
-                process = after-output C M P (y .process);
-                shallow = omega arith;
-                short = y .short;
-                labelled = y .labelled;
-                small = y .small;
-                normal = y .normal;
-                bound = y .bound;
-                room = omega (arith, y .room);
-                fits = fits-none Settle (g .names) P refl (omega (arith, y .fits .own));
-                meant = tt;
-              }) d
-          of (act ρ (input C) P) x g y d = absurd (z (e ∙ process-kind (Process.act (input C) P) (y .process) .0))
+          of (act ρ p P) x g y d = f .exact p P x ρ g y d
           of (repl ρ P) x g y d = absurd (n (e ∙ process-kind (Process.repl P) (y .process) .0))
 
-pub ruleset rests = (rest-nowhere, rest-repl, rest-input, rest-output)
+pub ruleset rests = (rest-nowhere, rest-repl, rest-acts)

@@ -133,7 +133,7 @@ pub ruleset indexing = (no-node-left, nothing-there, node-indexed)
 
 -- Processes in a row: none, one or two.
 module _ {s : List ℕ} {at left : ℕ} where
-  pub row-none : {count : ℕ} {r : Entry} → count ≡ 0 → r ≡ entry at 0 0 1 → IndexesRow s at left count r s
+  pub row-none : {count : ℕ} {r : Entry} → count ≡ 0 → r ≡ entry at 0 0 1 0 → IndexesRow s at left count r s
   row-none {count} {r} e z = record { exact = λ Ps m f p d h. only Ps (m ∙ e) p }
     where
       only : (Ps : List Process) {end : ℕ} → length Ps ≡ 0 → Stands s at (row encodeProcess Ps) end

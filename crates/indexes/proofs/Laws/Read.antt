@@ -1,9 +1,11 @@
 -- The numbers of an entry, read and written ("Bytes"). Assumes nothing.
-use mathlib.Core.Path.{_≡_, sym, ap, _∙_}
+use mathlib.Core.Path.{_≡_, sym, ap, subst, _∙_}
 use mathlib.Core.Bool.{Bool, true, false}
-use mathlib.Core.List.{List, [], _∷_, append-nil}
+use mathlib.Core.List.{List, [], _∷_, _++_, append-nil}
 use Prim.Native.Nat.{ℕ, zero, suc, _+_, _*_, _%_, _/_, _≤_, _<_}
 use native.Mathlib.Omega.{arith}
+use mir.Syntax.{w64}
+use mir.Val.{Fits}
 use lib.ListN.{length, getD, set, length-drop}
 use Rattle.meaning.specs.Bytes.Process.{output, input, Process, nil, new, act, if, let-in, par, repl}
 use Rattle.meaning.specs.Bytes.Standing.{Stands}
@@ -13,11 +15,28 @@ use Rattle.nodes.specs.Encoding.{encodeNode, numberAt}
 use Rattle.nodes.proofs.Laws.Buffer.{kept, node-within, node-stands, one-after, unchanged}
 use Rattle.nodes.proofs.Laws.Walk.{node-number, node-end}
 use Rattle.layouts.specs.Ends.{row}
-use Rattle.layouts.proofs.Laws.Standing.{row-append}
+use Rattle.layouts.proofs.Laws.Standing.{first-byte}
 use Rattle.indexes.specs.declared.entry.Entry.{Entry}
-use Rattle.indexes.specs.Entry.{entryOf, IsLarge}
-use Rattle.indexes.specs.Index.{entryAt, numbersOf, Noted, Indexed, Says, Ends, Lasts, Fixes, Writes, Notes}
+use Rattle.indexes.specs.Entry.{short, entryOf, IsLarge}
+use Rattle.indexes.specs.Index.{
+  entryAt,
+  numbersOf,
+  bytesOf,
+  EntryOf,
+  Noted,
+  Indexed,
+  InModel,
+  Says,
+  SaysByte,
+  Ends,
+  Lasts,
+  Fixes,
+  Spreads,
+  Writes,
+  Notes,
+}
 use Rattle.indexes.proofs.Laws.Kept.{bytes}
+use Rattle.indexes.proofs.Laws.Entry.{short-low}
 
 -- A number of a row of numbers, two bytes each.
 numbers-read : {s : List ℕ} {at end : ℕ} (xs : List ℕ) (i : ℕ) → i < length xs → Stands s at (row encodeNode xs) end
@@ -32,6 +51,29 @@ numbers-read {s} {at} (x ∷ xs) (suc i) h p =
     let next : at + 2 * suc i ≡ mid + 2 * i = omega (arith, node-end x k) in
     rw next (numbers-read xs i (omega arith) q)
 
+-- A byte of bytes that stand at a position.
+byte-read : {s : List ℕ} {at end : ℕ} (xs : List ℕ) (i : ℕ) → i < length xs → Stands s at xs end → getD s (at + i) 0 ≡ getD xs i 0
+byte-read [] i h p = absurd (omega arith)
+byte-read {at} (x ∷ xs) zero h p =
+    let here : at + 0 ≡ at = omega arith in
+    rw here (sym (first-byte p))
+byte-read {at} (x ∷ xs) (suc i) h p =
+    let (mid, k, q) = parts (x ∷ []) (xs ∷ []) p in
+    let next : at + suc i ≡ mid + i = omega (arith, k .size) in
+    rw next (byte-read xs i (omega arith) q)
+
+-- The two parts of an entry.
+module _ (s : List ℕ) (at : ℕ) (e : Entry) (n : EntryOf s at e) where
+  front : (mid : ℕ) × Stands s (entryAt at) (row encodeNode (numbersOf e)) mid × Stands s mid (bytesOf e) (entryAt at + 8)
+  front = parts (row encodeNode (numbersOf e)) (bytesOf e ∷ []) n
+
+  back : (i : ℕ) → i < 2 → getD s (4096 + 8 * at + 6 + i) 0 ≡ getD (bytesOf e) i 0
+  unfolding encodeNode
+  back i h =
+      let (mid, p, q) = front in
+      let here : 4096 + 8 * at + 6 + i ≡ mid + i = omega (arith, p .size) in
+      rw here (byte-read (bytesOf e) i h q)
+
 -- The entry of a process in the index.
 own-entry : (s : List ℕ) (at : ℕ) (P : Process) → Indexed s at P → Noted s at P
 own-entry s at nil i = i
@@ -43,24 +85,40 @@ own-entry s at (let-in M P) i = i .0
 own-entry s at (par P Q) i = i .0
 own-entry s at (repl P) i = i .0
 
-module _ {s : List ℕ} {at field : ℕ} where
-  pub no-entry : 4096 ≤ at → Says s at field 0
-  no-entry h = record { same = λ P p. absurd (omega (arith, p .stands .size, p .inside, bytes P)) }
+-- Where no entry can stand, no process is in the index.
+module _ {s : List ℕ} {at end : ℕ} (P : Process) (p : InModel s at P end) where
+  not-above : 4096 ≤ at → ⊥
+  not-above h = omega (arith, p .stands .size, p .inside, bytes P)
 
-  pub no-index : length s < 4096 + 8 * at + 8 → Says s at field 0
+  long-enough : length s < 4096 + 8 * at + 8 → ⊥
   unfolding encodeNode
-  no-index h = record {
-    same = λ P p.
-        let n = own-entry s at P (p .indexed) in
-        absurd (omega (arith, length-drop (entryAt at) s, ap length (n .bytes), n .size));
-  }
+  long-enough h =
+      let n = own-entry s at P (p .indexed) in
+      omega (arith, length-drop (entryAt at) s, ap length (n .bytes), n .size)
 
-  pub is-said : {v : ℕ} → v ≡ numberAt s (4096 + 8 * at + 2 * field) → field < 4 → Says s at field v
-  is-said n h = record { same = λ P p. n ∙ numbers-read (numbersOf (entryOf at P)) field h (own-entry s at P (p .indexed)) }
+module _ {s : List ℕ} {at field v : ℕ} where
+  pub no-entry : 4096 ≤ at → Says s at field v
+  no-entry h = record { same = λ P p. absurd (not-above P p h) }
 
-pub ruleset sayings = (no-entry, no-index, is-said)
+  pub no-index : length s < 4096 + 8 * at + 8 → Says s at field v
+  no-index h = record { same = λ P p. absurd (long-enough P p h) }
 
--- So an entry says where a process ends, its last output and its last input, and its private names.
+  pub is-said : v ≡ numberAt s (4096 + 8 * at + 2 * field) → field < 3 → Says s at field v
+  is-said n h =
+      record { same = λ P p. n ∙ numbers-read (numbersOf (entryOf at P)) field h (front s at (entryOf at P) (own-entry s at P (p .indexed)) .1) }
+
+  pub no-byte : 4096 ≤ at → SaysByte s at field v
+  no-byte h = record { same = λ P p. absurd (not-above P p h) }
+
+  pub no-bytes : length s < 4096 + 8 * at + 6 + 2 → SaysByte s at field v
+  no-bytes h = record { same = λ P p. absurd (long-enough P p (omega arith)) }
+
+  pub byte-said : {b : ℕ} → v ≡ b → b ≡ getD s (4096 + 8 * at + 6 + field) 0 → field < 2 → SaysByte s at field v
+  byte-said e n h = record { same = λ P p. e ∙ n ∙ back s at (entryOf at P) (own-entry s at P (p .indexed)) field h }
+
+pub ruleset sayings = (no-entry, no-index, is-said, no-byte, no-bytes, byte-said)
+
+-- So an entry says where a process ends, its last output and its last input, its private names, and how far it spreads.
 module _ {s : List ℕ} {at v : ℕ} where
   pub too-low : Says s at 0 v → v < at → Ends s at at
   too-low n h = record { same = λ P p. absurd (omega (arith, n .same P p, p .stands .size)) }
@@ -74,10 +132,13 @@ module _ {s : List ℕ} {at v : ℕ} where
   pub last-input : {out : Bool} → out ≡ false → Says s at 2 v → Lasts s at out v
   last-input e n = record { same = λ P p. rw e (n .same P p) }
 
-  pub fixed : Says s at 3 v → Fixes s at v
+  pub fixed : SaysByte s at 0 v → Fixes s at v
   fixed n = record { same = λ P p. n .same P p }
 
-pub ruleset meanings = (too-low, ends-there, last-output, last-input, fixed)
+  pub spreads : SaysByte s at 1 v → Spreads s at v
+  spreads n = record { same = λ P p. n .same P p }
+
+pub ruleset meanings = (too-low, ends-there, last-output, last-input, fixed, spreads)
 
 -- An entry that is not written.
 module _ {s : List ℕ} {at : ℕ} {e : Entry} where
@@ -87,7 +148,7 @@ module _ {s : List ℕ} {at : ℕ} {e : Entry} where
   pub none-so-large : {b : Bool} → IsLarge e b → b ≡ true → Notes s at e s
   none-so-large y f = record { own = unchanged; noted = λ l k. absurd (y .yes f k) }
 
--- The numbers of a small entry fit two bytes.
+-- The numbers of a small entry fit two bytes, and so do the last two of them, as one number.
 module _ {e : Entry} {b : Bool} (y : IsLarge e b) (t : b ≡ false) where
   pub end-fits : e .end < 65536
   end-fits = omega (arith, y .no t .end)
@@ -98,10 +159,16 @@ module _ {e : Entry} {b : Bool} (y : IsLarge e b) (t : b ≡ false) where
   pub input-fits : e .input < 65536
   input-fits = omega (arith, y .no t .input)
 
-  pub names-fit : e .names < 65536
-  names-fit = omega (arith, y .no t .names)
+  pub spread-fits : Fits w64 (256 * e .spread)
+  spread-fits = omega (arith, y .no t .spread)
 
-pub ruleset fitting = (end-fits, output-fits, input-fits, names-fit)
+  pub sum-fits : {n : ℕ} → n < 256 → Fits w64 (n + 256 * e .spread)
+  sum-fits h = omega (arith, y .no t .spread)
+
+  pub both-fit : {n : ℕ} → n < 256 → n + 256 * e .spread < 65536
+  both-fit h = omega (arith, y .no t .spread)
+
+pub ruleset fitting = (end-fits, output-fits, input-fits, spread-fits, sum-fits, both-fit)
 
 -- Two numbers that are written, and then two behind them.
 pub two-written : (s : List ℕ) (at v w : ℕ) {s₁ s₂ : List ℕ} → s₁ ≡ set (set s at (v % 256)) (at + 1) (v / 256)
@@ -117,19 +184,31 @@ two-written s at v w {s₁} {s₂} e f h =
       frame = one-after first second (omega arith) (omega arith) (omega arith) (omega arith);
     }
 
-module _ {s s₁ s₂ : List ℕ} {at : ℕ} {e : Entry} (w : Writes s (4096 + 8 * at) (e .end) (e .output) s₁)
-    (u : Writes s₁ (4096 + 8 * at + 4) (e .input) (e .names) s₂) (h : at < 4096) where
-  pub entered : Notes s at e s₂
-  entered =
+-- So they are the bytes of an entry.
+same-bytes : (a b c n k : ℕ) → n < 256 → row encodeNode (a ∷ b ∷ []) ++ row encodeNode (c ∷ (n + 256 * k) ∷ [])
+    ≡ row encodeNode (a ∷ b ∷ c ∷ []) ++ (n ∷ k ∷ [])
+unfolding encodeNode
+same-bytes a b c n k h =
+    let low : (n + 256 * k) % 256 ≡ n = omega arith in
+    let high : (n + 256 * k) / 256 ≡ k = omega arith in
+    rw (low, high)
+
+module _ {s s₁ s₂ : List ℕ} {at v : ℕ} {e : Entry} (w : Writes s (4096 + 8 * at) (e .end) (e .output) s₁)
+    (u : Writes s₁ (4096 + 8 * at + 4) (e .input) v s₂) (h : at < 4096) where
+  pub entered : {n : ℕ} → n ≡ short (e .names) → v ≡ n + 256 * e .spread → Notes s at e s₂
+  entered {n} x z =
       let end : entryAt at + 4 + 4 ≡ entryAt at + 8 = omega arith in
       record {
         own = one-after (w .frame) (u .frame) (omega arith) (omega arith) (omega arith) (omega arith);
         noted = λ g k.
-            rw (row-append encodeNode (e .end ∷ e .output ∷ []) (e .input ∷ e .names ∷ []))
-            (kept {low = entryAt at + 4} (w .there) (omega arith) (u .frame .below) ⨾ rw end at (u .there));
+            let both = kept {low = entryAt at + 4} (w .there) (omega arith) (u .frame .below) ⨾ rw (end, z) at (u .there) in
+            let few : n < 256 = omega (arith, x, short-low (e .names)) in
+            let bytes = same-bytes (e .end) (e .output) (e .input) n (e .spread) few in
+            rw (← x) (subst (λ xs. Stands s₂ (entryAt at) xs (entryAt at + 8)) bytes both);
       }
 
-  pub entry-within : Within 4096 36864 s s₂
-  entry-within = one-after (w .frame) (u .frame) (omega arith) (omega arith) (omega arith) (omega arith)
+pub entry-within : {s s₁ s₂ : List ℕ} {at a b c d : ℕ} → Writes s (4096 + 8 * at) a b s₁ → Writes s₁ (4096 + 8 * at + 4) c d s₂ → at < 4096
+    → Within 4096 36864 s s₂
+entry-within w u h = one-after (w .frame) (u .frame) (omega arith) (omega arith) (omega arith) (omega arith)
 
 pub ruleset entries = (none-behind, none-so-large, entered, entry-within, unchanged)

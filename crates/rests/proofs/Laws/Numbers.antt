@@ -52,7 +52,7 @@ use Rattle.ways.proofs.Laws.ReachOffers.{reached-offers, arrived-copy, arrived-
 use Rattle.moves.proofs.Laws.Opened.{names-later, opened-all, judged-clear}
 
 -- What holds at every place of a list holds at one that is listed.
-listed-one : {A : Type 0} {Q : A → Type 0} {xs : List A} (before : List A) (a : A) (after : List A) → xs ≡ before ++ (a ∷ after) → Every Q xs
+pub listed-one : {A : Type 0} {Q : A → Type 0} {xs : List A} (before : List A) (a : A) (after : List A) → xs ≡ before ++ (a ∷ after) → Every Q xs
     → Q a
 listed-one {Q = Q} before a after e p = first (every-parts before (rw e at p) .1)
   where

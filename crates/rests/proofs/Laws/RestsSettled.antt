@@ -65,7 +65,7 @@ then-both false n last R τ e =
     (then-counted (overSettling R τ last) last (names R τ last))
 
 -- The rest of a single thread takes the message that goes, if it takes one.
-bound-carried : (x : Message) (p : Spot) (a : Acting) → boundAfter (carried x (alone p a)) a ≡ boundAfter x a
+pub bound-carried : (x : Message) (p : Spot) (a : Acting) → boundAfter (carried x (alone p a)) a ≡ boundAfter x a
 unfolding carried
 bound-carried x p a = of (a .prefix)
   where

@@ -1,7 +1,8 @@
 -- A thread that acts itself, among the others that stay ("Steps"; "Judging and its count"). Assumes nothing.
-use mathlib.Core.Path.{sym, ap, _∙_}
+use mathlib.Core.Path.{_≡_, refl, sym, ap, _∙_}
+use mathlib.Core.Bool.{true, false, not, true≢false}
 use mathlib.Core.List.{List, [], _∷_, _++_}
-use Prim.Native.Nat.{ℕ, _+_, _-_}
+use Prim.Native.Nat.{ℕ, _+_, _-_, _<_}
 use native.Mathlib.Omega.{arith}
 use lib.ListN.{length}
 use Rattle.meaning.specs.Places.{_also_}
@@ -15,15 +16,45 @@ use Rattle.states.specs.Progress.{Extends}
 use Rattle.states.specs.declared.state.State as code
 use Rattle.states.specs.declared.progress.Progress.{Progress}
 use Rattle.states.proofs.Laws.Progress.{records-twice}
+use Rattle.forms.specs.Rest.{Rests}
 use Rattle.positions.specs.Rebuilt.{pushAll}
 use Rattle.positions.proofs.Laws.Writing.{pushAll-names}
 use Rattle.moves.specs.Threads.{Threads}
 use Rattle.moves.proofs.Laws.Threads.{first-thread, threads-from, threads-kept, thread-kept}
-use Rattle.successors.specs.Alone.{Replaces}
-use Rattle.successors.specs.Bare.{behindSpot, Follows}
+use Rattle.rests.proofs.Laws.Rests.{record-below}
+use Rattle.successors.specs.Alone.{behindSpot, Follows, Replaces}
 use Rattle.successors.specs.Block.{KeepsAll}
 use Rattle.successors.proofs.Laws.Bare.{then-shown}
 use Rattle.successors.proofs.Laws.Block.{records-joined}
+
+-- What follows one thread.
+module _ {s message m out : List ℕ} {to at : ℕ} {now : Progress} where
+  pub follows-not : not (now .going) ≡ true → Follows s to at message m out now now out
+  follows-not off = record {
+    stopped = λ e. (refl, refl);
+    exact = λ t y g h i n d. absurd (true≢false (sym off ∙ ap not (d .on)));
+  }
+
+  module _ {r : Progress} (on : not (now .going) ≡ false) where
+    pub follows-none : to < 4 → Follows s to at message m out now r out
+    follows-none l = record {
+      stopped = λ off. absurd (true≢false (ap not (sym off) ∙ on));
+      exact = λ t y g h i n d. absurd (omega (arith, record-below t h));
+    }
+
+    pub follows-short : to - 4 < at → Follows s to at message m out now r out
+    follows-short l = record {
+      stopped = λ off. absurd (true≢false (ap not (sym off) ∙ on));
+      exact = λ t y g h i n d. absurd (omega (arith, record-below t h));
+    }
+
+    pub follows-rest : {after : List ℕ} → Rests s message at m out now r after → Follows s to at message m out now r after
+    follows-rest rests = record {
+      stopped = λ off. absurd (true≢false (ap not (sym off) ∙ on));
+      exact = λ t y g h i n d. rests .exact t y g (h .recorded) i (h .short) (h .wide) n d;
+    }
+
+pub ruleset followings = (follows-not, follows-none, follows-short, follows-rest)
 
 -- The threads before one end where its record begins.
 threads-before : {s out : List ℕ} {at k end : ℕ} (ls ts : List Placed) → Threads s out at k (ls ++ ts) end

@@ -28,9 +28,8 @@ use Rattle.moves.specs.Threads.{Judged}
 use Rattle.moves.specs.Moving.{carried}
 use Rattle.moves.proofs.Laws.MovesSpots.{Stands, exchanged-is}
 use Rattle.rests.proofs.Laws.RestsMoves.{Among}
-use Rattle.successors.specs.Alone.{replacedBy}
-use Rattle.successors.specs.Bare.{behindSpot}
-use Rattle.successors.proofs.Laws.LightMove.{only-one, spotOf, offerOf, own-place}
+use Rattle.successors.specs.Alone.{behindSpot, replacedBy}
+use Rattle.successors.proofs.Laws.Own.{only-one, spotOf, offerOf, own-place}
 
 or-sides : (o : Bool) → ((false || o) || false) ≡ o
 or-sides true = refl

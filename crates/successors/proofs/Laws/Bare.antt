@@ -1,16 +1,16 @@
--- The state that a step leads to without its threads: what follows the threads that act is settled by itself, and there is room for it
+-- The state that a step leads to without its threads: what follows the processes that act is settled by itself, and there is room for it
 -- ("Judging and its count"). Assumes nothing.
 use mathlib.Core.Path.{_≡_, refl, sym, ap, _∙_}
 use mathlib.Core.Bool.{Bool, true, false, not, true≢false}
 use mathlib.Core.List.{List}
 use Prim.Native.Nat.{ℕ, _+_, _-_, _≤_, _<_}
 use native.Mathlib.Omega.{arith}
+use native.Mathlib.Nat.{le-refl}
 use borrow.Author.Tests.{eqb-false}
 use lib.ListN.{length}
 use Rattle.meaning.specs.Messages.Term.{Message}
-use Rattle.meaning.specs.Steps.State.{State, Thread, act, repl}
+use Rattle.meaning.specs.Steps.State.{State, act}
 use Rattle.nodes.specs.Buffer.{Within}
-use Rattle.states.specs.Record.{processOf}
 use Rattle.states.specs.Course.{Going, Course, going, further}
 use Rattle.states.specs.Shown.{Shows, ShowsCourse}
 use Rattle.states.specs.Progress.{Extends, Stopped}
@@ -18,10 +18,9 @@ use Rattle.states.specs.declared.state.State as code
 use Rattle.states.specs.declared.progress.Progress.{Progress}
 use Rattle.states.proofs.Laws.Progress.{records-twice}
 use Rattle.states.proofs.Laws.Written.{no-further, goes-further}
-use Rattle.walks.specs.News.{laterNews}
+use Rattle.walks.specs.News.{news}
 use Rattle.walks.proofs.Laws.Course.{go-fits}
 use Rattle.forms.specs.Visit.{nothingYet, Begins, Labelled}
-use Rattle.forms.specs.Rest.{settledBehind, Rests}
 use Rattle.forms.proofs.Laws.Visit.{begins-shown, behind}
 use Rattle.positions.specs.Located.{Acting}
 use Rattle.moves.specs.Spot.{Spot, recordAt}
@@ -35,41 +34,46 @@ use Rattle.moves.specs.declared.step.Actor.{Actor}
 use Rattle.moves.specs.declared.step.Label.{Label}
 use Rattle.moves.specs.declared.step.Label.the-variants.{Output, Input, Silent}
 use Rattle.moves.proofs.Laws.Threads.{thread-kept}
+use Rattle.rests.specs.Settled.{SettlesOffer}
 use Rattle.rests.proofs.Laws.Rests.{record-below}
 use Rattle.rests.proofs.Laws.RestsMoves.{Stood}
 use Rattle.rests.proofs.Laws.RestsThread.{thread-at, later-few, offer-acts}
 use Rattle.rests.proofs.Laws.RestsSettled.{sender-alone, taker-alone, not-silent, step-stood}
 use Rattle.successors.proofs.Laws.RebuiltMove.{some-mode}
-use Rattle.successors.specs.Bare.{behindSpot, restsOf, Follows, Settles, SettlesBoth}
+use Rattle.successors.specs.Bare.{restFrom, settledRests, FollowsOffer, Settles, SettlesBoth}
 
--- What follows one thread.
-module _ {s message m out : List ℕ} {to at : ℕ} {now : Progress} where
-  pub follows-not : not (now .going) ≡ true → Follows s to at message m out now now out
+-- What follows one offer.
+module _ {s message m out : List ℕ} {st : code.State} {v : Actor} {k : ℕ} {now : Progress} where
+  pub follows-not : not (now .going) ≡ true → FollowsOffer s st v k message m out now now out
   follows-not off = record {
     stopped = λ e. (refl, refl);
-    exact = λ t y g h i n d. absurd (true≢false (sym off ∙ ap not (d .on)));
+    exact = λ p a y g before behind t i later small few listed e d. absurd (true≢false (sym off ∙ ap not (d .on)));
   }
 
   module _ {r : Progress} (on : not (now .going) ≡ false) where
-    pub follows-none : to < 4 → Follows s to at message m out now r out
+    pub follows-none : st .end < 4 → FollowsOffer s st v k message m out now r out
     follows-none l = record {
       stopped = λ off. absurd (true≢false (ap not (sym off) ∙ on));
-      exact = λ t y g h i n d. absurd (omega (arith, record-below t h));
+      exact = λ p a y g before behind t i later small few listed e d. absurd (omega (arith, record-below (p .thread) t));
     }
 
-    pub follows-short : to - 4 < at → Follows s to at message m out now r out
+    pub follows-short : st .end - 4 < v .at → FollowsOffer s st v k message m out now r out
     follows-short l = record {
       stopped = λ off. absurd (true≢false (ap not (sym off) ∙ on));
-      exact = λ t y g h i n d. absurd (omega (arith, record-below t h));
+      exact = λ p a y g before behind t i later small few listed e d.
+          absurd (omega (arith, record-below (p .thread) t, ap (λ (u : Actor). u .at) e));
     }
 
-    pub follows-rest : {after : List ℕ} → Rests s message at m out now r after → Follows s to at message m out now r after
-    follows-rest rests = record {
+    pub follows-offer : {after : List ℕ} → SettlesOffer s message (v .at) k m (v .mark) out now r after
+        → FollowsOffer s st v k message m out now r after
+    follows-offer settles = record {
       stopped = λ off. absurd (true≢false (ap not (sym off) ∙ on));
-      exact = λ t y g h i n d. rests .exact t y g (h .recorded) i (h .short) (h .wide) n d;
+      exact = λ p a y g before behind t i later small few listed e d.
+          let at : v .at ≡ recordAt (st .start) p = ap (λ (u : Actor). u .at) e in
+          (rw at at settles) .exact (p .thread) y before behind a g t i later small few listed (ap (λ (u : Actor). u .mark) e) d;
     }
 
-pub ruleset followings = (follows-not, follows-none, follows-short, follows-rest)
+pub ruleset followings = (follows-not, follows-none, follows-short, follows-offer)
 
 -- What is settled after something else, if that goes on.
 pub then-shown : {s out after : List ℕ} {now r : Progress} (c : Course) (f : Going → Course) → ShowsCourse s out now c
@@ -81,41 +85,39 @@ then-shown {s} {out} {after} {now} {r} c f d stopped on = by-going (now .going) 
     by-going true e = goes-further s after r c f d e on
     by-going false e = let (same, bytes) = stopped e in rw (same, bytes) (no-further s out now c f d e)
 
--- The private names after what follows a thread.
-names-behind : (u : Thread) (place : ℕ) (y : Message) (n : ℕ) (g : Going) → settledBehind u place y (nothingYet n) ≡ going g
-    → laterNews (processOf u) ≤ 4096 → g .names ≤ n + 4096
-names-behind (act ρ p P) place y n g e few = omega (arith, go-fits P _ y _ _ (nothingYet n) g e)
-names-behind (repl ρ P) place y n g e few = absurd (let z : _≡_ {A = ℕ} 0 1 = cc in omega arith)
+-- The private names after what follows an offer.
+names-behind : (a : Acting) (y : Message) (n : ℕ) (g : Going) → restFrom y a (nothingYet n) ≡ going g → g .names ≤ n + news (a .rest)
+names-behind a y n g e = omega (arith, go-fits (a .rest) _ y _ _ (nothingYet n) g e)
 
--- What follows the threads of a step: of one thread, by which of the two acts with its label.
+-- What follows the processes of a step: of one thread, by which of the two acts with its label.
 module _ {s message m out after : List ℕ} {st : code.State} {v : step.Step} {now r : Progress} where
   settles-one : (label : Label) (who : step.Step → Actor) → ¬ (Silent ≡ label)
       → ((p : Spot) (a : Acting) → stepOf (st .start) (alone p a) .label ≡ label → who (stepOf (st .start) (alone p a)) ≡ actor (st .start) p a)
-      → v .label ≡ label → Begins (st .end) (who v .next) now → Follows s (st .end) (who v .at) message m out now r after
+      → v .label ≡ label → Begins (st .end) (who v .next) now → FollowsOffer s st (who v) (st .names) message m out now r after
       → Settles s st v message m out r after
-  unfolding stepOf restsOf
+  unfolding stepOf settledRests
   settles-one label who loud acts e begins follows =
       record { exact = λ S h x w mv l. of S h x l w (mv .same) (step-stood w mv) (mv .labelled) }
     where
       of : (S : State) (h : Held s out st S) (x : Message) → Leading s st S m out → (w : Move) → v ≡ stepOf (st .start) w
-          → Stood (st .names) (h .at .placed) w → Labelled message (carried x w) → ShowsCourse s after r (restsOf (carried x w) w)
+          → Stood (st .names) (h .at .placed) w → Labelled message (carried x w) → ShowsCourse s after r (settledRests (carried x w) w)
       of S h x l (alone p a) f (stands, among) i =
           let t = thread-at h l p stands in
           let own : who v ≡ actor (st .start) p a = ap who f ∙ acts p a (sym (ap (λ (w : step.Step). w .label) f) ∙ e) in
-          let at : who v .at ≡ recordAt (st .start) p = ap (λ (u : Actor). u .at) own in
           let next : who v .next ≡ a .next = ap (λ (u : Actor). u .next) own in
           let small = offer-acts (p .thread) a among .small in
           let few = later-few (p .thread) t in
           let shown = begins-shown {s = s} {out = out} now (rw next at begins) (omega (arith, l .room)) in
-          (rw at at follows) .exact (p .thread) (carried x (alone p a)) (nothingYet (a .next)) t i (omega (arith, small, few, t .few)) shown
+          follows .exact p a (carried x (alone p a)) (nothingYet (a .next)) (among .before) (among .after) t i (le-refl (st .names))
+          (omega (arith, t .few)) (omega (arith, small, few, t .few)) (among .listed) own shown
       of S h x l (inside p j) f stood i = absurd (loud (sym (ap (λ (w : step.Step). w .label) f) ∙ e))
       of S h x l (between p q u) f stood i = absurd (loud (sym (ap (λ (w : step.Step). w .label) f) ∙ e))
 
-  pub settles-output : v .label ≡ Output → Begins (st .end) (v .sender .next) now → Follows s (st .end) (v .sender .at) message m out now r after
+  pub settles-output : v .label ≡ Output → Begins (st .end) (v .sender .next) now → FollowsOffer s st (v .sender) (st .names) message m out now r after
       → Settles s st v message m out r after
   settles-output = settles-one Output (λ w. w .sender) (λ e. let z : _≡_ {A = ℕ} 0 1 = cc in omega arith) (sender-alone (st .start))
 
-  pub settles-input : v .label ≡ Input → Begins (st .end) (v .taker .next) now → Follows s (st .end) (v .taker .at) message m out now r after
+  pub settles-input : v .label ≡ Input → Begins (st .end) (v .taker .next) now → FollowsOffer s st (v .taker) (st .names) message m out now r after
       → Settles s st v message m out r after
   settles-input = settles-one Input (λ w. w .taker) (λ e. let z : _≡_ {A = ℕ} 0 1 = cc in omega arith) (taker-alone (st .start))
 
@@ -128,45 +130,46 @@ pub ruleset settlings = (settles-output, settles-input, settles-silent)
 -- Of two threads, or of the copies of one, which are left out.
 module _ {s message m out : List ℕ} {st : code.State} {v : step.Step} {now : Progress} where
   pub both-copies : {r : Progress} → (v .mode ≡ 0 → ⊥) → Stopped now r → SettlesBoth s st v message m out r out
-  unfolding stepOf restsOf
+  unfolding stepOf settledRests
   both-copies {r} copied o = record { exact = λ e. record { exact = λ S h x w mv l. of S h x w e (mv .same) (step-stood w mv) } }
     where
       of : (S : State) (h : Held s out st S) (x : Message) (w : Move) → v .label ≡ Silent → v ≡ stepOf (st .start) w
-          → Stood (st .names) (h .at .placed) w → ShowsCourse s out r (restsOf (carried x w) w)
+          → Stood (st .names) (h .at .placed) w → ShowsCourse s out r (settledRests (carried x w) w)
       of S h x (alone p a) e f stood = absurd (not-silent (st .start) p a (sym (ap (λ (w : step.Step). w .label) f) ∙ e))
       of S h x (inside p j) e f stood = o .over
       of S h x (between p q u) e f stood = absurd (copied (ap (λ (w : step.Step). w .mode) f))
 
   pub both-follow : {m₁ out₁ after : List ℕ} {sent r : Progress} {high : ℕ} → v .mode ≡ 0 → Begins (st .end) (v .taker .next) now
-      → Follows s (st .end) (v .sender .at) message m out now sent out₁ → Within 0 high m m₁ → Within (now .state .end) (length out) out out₁
-      → Follows s (st .end) (v .taker .at) message m₁ out₁ sent r after → SettlesBoth s st v message m out r after
-  unfolding stepOf restsOf carried
+      → FollowsOffer s st (v .sender) (st .names) message m out now sent out₁ → Within 0 high m m₁ → Within (now .state .end) (length out) out out₁
+      → FollowsOffer s st (v .taker) (v .sender .next) message m₁ out₁ sent r after → SettlesBoth s st v message m out r after
+  unfolding stepOf settledRests carried
   both-follow {m₁} {out₁} {after} {sent} {r} e begins first wm wo second =
       record { exact = λ silent. record { exact = λ S h x w mv l. of S h x l w silent (mv .same) (step-stood w mv) (mv .labelled) } }
     where
       of : (S : State) (h : Held s out st S) (x : Message) → Leading s st S m out → (w : Move) → v .label ≡ Silent → v ≡ stepOf (st .start) w
-          → Stood (st .names) (h .at .placed) w → Labelled message (carried x w) → ShowsCourse s after r (restsOf (carried x w) w)
+          → Stood (st .names) (h .at .placed) w → Labelled message (carried x w) → ShowsCourse s after r (settledRests (carried x w) w)
       of S h x l (alone p a) silent f stood i = absurd (not-silent (st .start) p a (sym (ap (λ (w : step.Step). w .label) f) ∙ silent))
       of S h x l (inside p j) silent f stood i = absurd (eqb-false (modeOf j) 0 (some-mode j) (sym (ap (λ (w : step.Step). w .mode) f) ∙ e))
       of S h x l (between p q u) silent f sh i =
           let sender = thread-at h l p (sh .sending) in
           let taker = thread-at h l q (sh .taking) in
           let next : v .taker .next ≡ u .taker .next = ap (λ (w : step.Step). w .taker .next) f in
-          let from : v .sender .at ≡ recordAt (st .start) p = ap (λ (w : step.Step). w .sender .at) f in
-          let to : v .taker .at ≡ recordAt (st .start) q = ap (λ (w : step.Step). w .taker .at) f in
+          let from : v .sender .next ≡ u .sender .next = ap (λ (w : step.Step). w .sender .next) f in
           let early = offer-acts (p .thread) (u .sender) (sh .sender) .small in
           let late = offer-acts (q .thread) (u .taker) (sh .taker) .small in
           let few = later-few (p .thread) sender in
           let few′ = later-few (q .thread) taker in
           let y = sentBy u in
           let n = u .taker .next in
-          let small : n + 4096 ≤ 28664 = omega (arith, early, late, few, few′, sender .few) in
           let shown = begins-shown {s = s} {out = out} now (rw next at begins) (omega (arith, l .room)) in
-          let settled = (rw from at first) .exact (p .thread) y (nothingYet n) sender i (omega arith) shown in
+          let settled = first .exact p (u .sender) y (nothingYet n) (sh .sender .before) (sh .sender .after) sender i (le-refl (st .names))
+          (omega (arith, sender .few)) (omega (arith, early, late, few, few′, sender .few)) (sh .sender .listed) (ap (λ (w : step.Step). w .sender) f) shown in
           let kept = thread-kept (q .thread) (behind begins wo) wm taker in
-          then-shown (behindSpot y p (nothingYet n)) (behindSpot y q) settled (second .stopped)
-          (λ g d c. (rw to at second) .exact (q .thread) y g kept i
-          (omega (arith, names-behind (p .thread .thread) (p .thread .place) y n g d few)) c)
+          then-shown (restFrom y (u .sender) (nothingYet n)) (restFrom y (u .taker)) settled (second .stopped)
+          (λ g d c. (rw from at second) .exact q (u .taker) y g (sh .taker .before) (sh .taker .after) kept i
+          (offer-acts (p .thread) (u .sender) (sh .sender) .later) (omega (arith, early, few, sender .few))
+          (omega (arith, names-behind (u .sender) y n g d, early, late, few, few′, sender .few)) (sh .taker .listed)
+          (ap (λ (w : step.Step). w .taker) f) c)
 
 pub ruleset boths = (both-copies, both-follow)
 

@@ -5,6 +5,7 @@ use mathlib.Core.Bool.{Bool, true, false, not, true≢false}
 use mathlib.Core.List.{List, [], _∷_, _++_}
 use Prim.Native.Nat.{ℕ, _+_, _-_, _≤_}
 use native.Mathlib.Omega.{arith}
+use native.Mathlib.Nat.{le-refl}
 use borrow.Author.Tests.{le-ltb}
 use lib.ListN.{length}
 use Rattle.meaning.specs.Messages.Term.{Message, nodes}
@@ -22,41 +23,55 @@ use Rattle.walks.specs.Settled.{threadsOf}
 use Rattle.forms.specs.Form.{StateAt, stateOf, overArrival, Finishes}
 use Rattle.forms.specs.declared.form.Formed.{Formed}
 use Rattle.forms.specs.declared.form.Formed.the-variants.{At, OverLimit}
+use Rattle.positions.specs.Rebuilt.{nodesOf}
 use Rattle.positions.proofs.Laws.Copies.{split-at}
 use Rattle.moves.specs.Spot.{Spot}
 use Rattle.moves.specs.Moves.{Move, alone, inside, between}
 use Rattle.moves.specs.Outcome.{outcome, arrivalOf}
-use Rattle.moves.specs.Limits.{restOver}
 use Rattle.moves.specs.Threads.{Judged}
 use Rattle.moves.specs.Step.{stepOf}
 use Rattle.moves.specs.Held.{Held}
-use Rattle.moves.specs.Moving.{carried, Moving}
+use Rattle.moves.specs.Moving.{carried, Leading, Moving}
 use Rattle.moves.specs.declared.step.Step as step
 use Rattle.moves.proofs.Laws.Limits.{limitsJudged}
 use Rattle.moves.proofs.Laws.MovesSpots.{Stands}
 use Rattle.rests.proofs.Laws.RestsMoves.{Stood, moves-stood}
 use Rattle.alias_lists.specs.Aliases.{appended, Begun, Carries}
 use Rattle.successors.specs.Tasks.{sends}
-use Rattle.successors.specs.Bare.{bareOf, restsOf, Settles, Fits, FormsBare}
+use Rattle.successors.specs.Bare.{bareOf, settledRests, Settles, Bounds, Fits, FormsBare}
+use Rattle.successors.specs.Excess.{Adds}
+use Rattle.successors.specs.declared.excess.Excess.{Excess}
 use Rattle.successors.proofs.Laws.Lead.{every-move, aliases-after}
 use Rattle.successors.proofs.Laws.Leads.{held-kept}
-use Rattle.successors.proofs.Laws.Light.{nodesOf}
-use Rattle.successors.proofs.Laws.LightMove.{Light, light-alone, light-between}
+use Rattle.successors.proofs.Laws.LightMove.{Light, opens-at, light-alone, light-between}
+
+-- Numbers within a limit, or not known to be.
+module _ {limit a b c d : ℕ} where
+  pub bounds-not : Bounds limit a b c d false
+  bounds-not = record { exact = λ f. absurd (true≢false (sym f)) }
+
+  pub bounds-so : {r : Bool} → a ≤ limit → b ≤ limit - a → c ≤ limit - a - b → (r ≡ true → d ≤ limit - a - b - c) → Bounds limit a b c d r
+  bounds-so l k j i = record { exact = λ f. omega (arith, i f) }
+
+pub ruleset bounds = (bounds-not, bounds-so)
 
 -- Room, or none that is known.
-module _ {st : code.State} {r : Progress} {size : ℕ} where
-  pub fits-not : Fits st r size false
-  fits-not = record { room = λ e. absurd (true≢false (sym e)) }
+module _ {st : code.State} {e : Excess} {r : Progress} {size : ℕ} where
+  pub fits-not : Fits st e r size false
+  fits-not = record { room = λ f. absurd (true≢false (sym f)) }
 
-  pub fits-so : {b : Bool} → not (r .going) ≡ false → r .names ≤ 128 → st .threads ≤ 32 → r .state .threads ≤ 32 - st .threads → st .nodes ≤ 1024
-      → r .state .nodes ≤ 1024 - st .nodes → (b ≡ true → size ≤ 1024 - st .nodes - r .state .nodes) → Fits st r size b
-  fits-so on names l threads k nodes left = record {
-    room = λ e. record { on = goes (r .going) on; threads = omega arith; nodes = omega (arith, left e); names = names };
+  pub fits-so : {few light : Bool} → not (r .going) ≡ false → r .names ≤ 128 → Bounds 32 (st .threads) (e .threads) (r .state .threads) 0 few
+      → few ≡ true → Bounds 1024 (st .nodes) (e .nodes) (r .state .nodes) size light → Fits st e r size light
+  fits-so on names threads so nodes = record {
+    room = λ f.
+        record { on = goes (r .going) on; threads = omega (arith, threads .exact so); nodes = nodes .exact f; names = names };
   }
     where
       goes : (b : Bool) → not b ≡ false → b ≡ true
       goes true e = refl
       goes false e = absurd (true≢false e)
+
+pub ruleset fittings = (fits-not, fits-so)
 
 -- A walk that goes on shows what it has come to.
 on-going : {s out : List ℕ} {r : Progress} (c : Course) → ShowsCourse s out r c → r .going ≡ true → (g : Going) × (c ≡ going g) × Shows s out r g
@@ -79,19 +94,22 @@ module _ {s out : List ℕ} {st : code.State} {v : step.Step} {message : List �
   judged-at : (p : Spot) → Stands (h .at .placed) p → Judged (S .next) (p .thread)
   judged-at p stands = every-split (split-at (p .before) (stands .parts)) (h .judged) .1
 
-  -- What follows the threads of the step makes it no heavier than this.
-  weighed : (g : Going) → restsOf (carried x w) w ≡ going g → Light (h .at .placed) (outcome (h .at .placed) (S .next) x w) (restOver x w) g
-  unfolding restsOf
-  weighed g e =
+  -- What follows the processes of the step, as it was settled.
+  settled-light : (g : Going) → settledRests (carried x w) w ≡ going g → Light (h .at .placed) (S .next) x w g
+  unfolding settledRests
+  settled-light g e =
       of w (every-split (split-at (moving .earlier) (moving .listed)) (moves-stood _ (h .at .placed) (v .label) (moving .channel)) .1) g e
     where
-      of : (u : Move) → Stood (S .next) (h .at .placed) u → (g : Going) → restsOf (carried x u) u ≡ going g
-          → Light (h .at .placed) (outcome (h .at .placed) (S .next) x u) (restOver x u) g
-      of (alone p a) (stands, among) g e = light-alone (h .at .placed) (S .next) x (moving .stored) p a stands among (judged-at p stands) g e
+      of : (u : Move) → Stood (S .next) (h .at .placed) u → (g : Going) → settledRests (carried x u) u ≡ going g
+          → Light (h .at .placed) (S .next) x u g
+      of (alone p a) (stands, among) g e =
+          light-alone (h .at .placed) (S .next) x (moving .stored) p a
+          (opens-at (S .next) (p .thread) a (le-refl (S .next)) (judged-at p stands) among) g e
       of (inside p j) stood g e = absurd (let z : _≡_ {A = ℕ} 0 1 = cc in omega arith)
       of (between p q u) sh g e =
-          light-between (h .at .placed) (S .next) x p q u (sh .sender) (sh .taker) (sh .sends) (sh .takes) (judged-at p (sh .sending))
-          (judged-at q (sh .taking)) g e
+          let sender = opens-at (S .next) (p .thread) (u .sender) (le-refl (S .next)) (judged-at p (sh .sending)) (sh .sender) in
+          let taker = opens-at (u .sender .next) (q .thread) (u .taker) (sender .later) (judged-at q (sh .taking)) (sh .taker) in
+          light-between (h .at .placed) (S .next) x p q u sender taker (sh .sends) (sh .takes) g e
 
   aliases-weigh : boundNodes (S .aliases ++ outcome (h .at .placed) (S .next) x w .alias) ≤ boundNodes (S .aliases) + length message
   aliases-weigh =
@@ -105,18 +123,20 @@ module _ {s out : List ℕ} {st : code.State} {v : step.Step} {message : List �
         ap length (moving .labelled .same),
       )
 
-  within-limits : (g : Going) → restsOf (carried x w) w ≡ going g → st .threads + length (g .threads) ≤ 32
-      → st .nodes + g .nodes + length message ≤ 1024 → g .names ≤ 128
+  within-limits : {m : List ℕ} {e : Excess} → Leading s st S m out → Adds s st v out e → e .threads ≤ 32 → (g : Going)
+      → settledRests (carried x w) w ≡ going g → st .threads + e .threads + length (g .threads) ≤ 32
+      → st .nodes + e .nodes + g .nodes + length message ≤ 1024 → g .names ≤ 128
       → overArrival (arrivalOf S (outcome (h .at .placed) (S .next) x w)) ≡ false
-  within-limits g e few light names =
+  within-limits leading adds small g course few light names =
       let o = outcome (h .at .placed) (S .next) x w in
-      let l = weighed g e in
+      let l = settled-light g course in
+      let left = adds .exact small S h x w moving leading in
       let limits = every-move (S .next) (h .at .placed) (limitsJudged (h .at .placed) S x (h .judged) (moving .stored)) (v .label)
       (moving .channel) (moving .earlier) (moving .others) w (moving .listed) in
       let total = threadNodes (threadsOf (o .threads)) + boundNodes (S .aliases ++ o .alias) in
       let own : nodesOf (h .at .placed) ≡ threadNodes (S .threads) = ap threadNodes (h .at .threads) in
-      let threads = le-ltb 32 (length (o .threads)) (omega (arith, l .few, h .at .many)) in
-      let nodes = le-ltb 1024 total (omega (arith, l .light, own, h .at .nodes, aliases-weigh)) in
+      let threads = le-ltb 32 (length (o .threads)) (omega (arith, left .few, l .few, h .at .many)) in
+      let nodes = le-ltb 1024 total (omega (arith, left .light, l .light, own, h .at .nodes, aliases-weigh)) in
       let next = le-ltb 128 (o .next) (omega (arith, l .next)) in
       limits ∙ rw (l .free, threads, nodes, next)
 
@@ -125,20 +145,20 @@ module _ {s message m out after : List ℕ} {st : code.State} {v : step.Step} wh
   pub forms-not : FormsBare s st v message m out OverLimit after
   forms-not = record { exact = λ S h x w moving leading bare e. absurd (let z : _≡_ {A = ℕ} 0 1 = cc in omega arith) }
 
-  pub forms-bare : {mid : List ℕ} {ok q : Bool} {rests b : Progress} {f : Formed} {high : ℕ} → Settles s st v message m out rests mid
-      → Fits st rests (length message) ok → ok ≡ true → Within (st .end) high out mid
+  pub forms-bare : {mid : List ℕ} {ok q : Bool} {added : Excess} {rests b : Progress} {f : Formed} {high : ℕ} → Adds s st v out added
+      → added .threads ≤ 32 → Settles s st v message m out rests mid → Fits st added rests (length message) ok → ok ≡ true → Within (st .end) high out mid
       → Carries st message q (rests .names) mid b after → q ≡ sends (v .label) → Finishes b f → FormsBare s st v message m out f after
   unfolding threadNodes held-kept
-  forms-bare {q = q} {rests} {b} settles fits so within carries e finishes = record {
+  forms-bare {q = q} {rests = rests} {b} adds small settles fits so within carries e finishes = record {
     exact = λ S h x w moving leading bare is.
         let room = fits .room so in
         let o = outcome (h .at .placed) (S .next) x w in
-        let (g, course, shows) = on-going (restsOf (carried x w) w) (settles .exact S h x w moving leading) (room .on) in
+        let (g, course, shows) = on-going (settledRests (carried x w) w) (settles .exact S h x w moving leading) (room .on) in
         let names : g .names ≡ rests .names = sym (shows .names) in
         let light = aliases-weigh S h x w moving in
-        let free = within-limits S h x w moving g course (omega (arith, room .threads, shows .threads)) (omega (arith, room .nodes, shows .nodes))
+        let free = within-limits S h x w moving leading adds small g course (omega (arith, room .threads, shows .threads)) (omega (arith, room .nodes, shows .nodes))
         (omega (arith, names, room .names)) in
-        let next : rests .names ≡ o .next = sym names ∙ sym (weighed S h x w moving g course .next) in
+        let next : rests .names ≡ o .next = sym names ∙ sym (settled-light S h x w moving g course .next) in
         let there = held-kept within h in
         let all : appended q (S .aliases) (carried x w) ≡ S .aliases ++ o .alias =
         ap (λ c. appended c (S .aliases) (carried x w)) (e ∙ ap (λ u. sends (u .label)) (moving .same))

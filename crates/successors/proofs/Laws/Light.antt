@@ -1,8 +1,8 @@
 -- What a step leads to has no more threads and nodes than the state that is left and what follows the threads that act ("Judging and its
 -- count"). Assumes nothing.
-use mathlib.Core.Path.{_≡_, refl, sym, ap, _∙_}
+use mathlib.Core.Path.{_≡_, refl, sym, _∙_}
 use mathlib.Core.Bool.{Bool, true, false, _||_}
-use mathlib.Core.List.{List, [], _∷_, _++_, map-append, flatMap}
+use mathlib.Core.List.{List, [], _∷_, _++_, flatMap}
 use Prim.Native.Nat.{ℕ, _+_, _≤_}
 use native.Mathlib.Omega.{arith}
 use borrow.Author.Tests.{eqb-true}
@@ -18,9 +18,8 @@ use Rattle.meaning.proofs.Test.{neither}
 use Rattle.states.specs.Record.{Placed}
 use Rattle.states.specs.Course.{Going, going, unless}
 use Rattle.threads.specs.declared.task.Task.the-variants.{Settle}
-use Rattle.walks.specs.Settled.{threadsOf, settledTo, overSettled}
+use Rattle.walks.specs.Settled.{settledTo, overSettled}
 use Rattle.walks.specs.Walking.{go}
-use Rattle.walks.proofs.Laws.Crowd.{threadNodes-append}
 use Rattle.walks.proofs.Laws.Settling.{settles}
 use Rattle.moves.specs.Spot.{Spot, spots, spotsFrom}
 use Rattle.moves.specs.Outcome.{same, exchanged, bothExchanged}
@@ -69,17 +68,6 @@ module _ (μ : List Placed → ℕ) (nothing : μ [] ≡ 0) (joined : (xs ys : L
       by-tests false false e h rest =
           let light = rest a b (λ l. f (omega (arith, longer))) (λ l. g (omega (arith, longer))) in
           omega (arith, light, joined (t ∷ []) others, joined (t ∷ []) ts)
-
--- The nodes of threads with positions.
-abbrev pub nodesOf : List Placed → ℕ
-nodesOf ps = threadNodes (threadsOf ps)
-
-pub nodes-none : nodesOf [] ≡ 0
-unfolding threadNodes
-nodes-none = refl
-
-pub nodes-joined : (ps qs : List Placed) → nodesOf (ps ++ qs) ≡ nodesOf ps + nodesOf qs
-nodes-joined ps qs = ap threadNodes (map-append (λ t. t .thread) ps qs) ∙ threadNodes-append (threadsOf ps) (threadsOf qs)
 
 -- A process that was settled meets no limit of its own, and these are its threads.
 pub settled : (P : Process) (y : Message) (at : ℕ) (σ : Bound) (g h : Going) → BoundStored (g .names) σ → length (g .threads) ≤ 32

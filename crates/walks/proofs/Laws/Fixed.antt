@@ -10,6 +10,7 @@ use Rattle.meaning.specs.Steps.State.{Bound, _▸_, names}
 use Rattle.meaning.specs.Judging.Limits.{overSettling}
 use Rattle.indexes.specs.Entry.{together, fixedNames}
 use Rattle.indexes.specs.Index.{Fixes}
+use Rattle.indexes.proofs.Laws.Entry.{not-open}
 use Rattle.states.proofs.Laws.Process.{in-model}
 use Rattle.walks.specs.Count.{Fixed, Counts}
 use Rattle.walks.specs.declared.count.Counted.the-variants.{Names}
@@ -57,7 +58,7 @@ module _ {s : List ℕ} {at n : ℕ} where
   pub fixed-names : {f : ℕ} → Fixes s at f → (f ≡ 0 → ⊥) → Fixed s at n (n + f)
   fixed-names {f} x h = record {
     exact = λ _ P ρ p.
-        let own : fixedNames P ≡ suc (f - 1) = omega (arith, x .same P p, h) in
+        let own : fixedNames P ≡ suc (f - 1) = omega (arith, not-open (fixedNames P) (x .same P p) h, h) in
         let t = takes P ρ n own in
         let next : n + f - 1 ≡ names P ρ n = omega (arith, t .next, h) in
         rw (t .fine, ← next);

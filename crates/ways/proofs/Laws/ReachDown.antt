@@ -1,7 +1,8 @@
 -- The processes that settling comes to, copies being opened: where they stand, and that offers and repl threads are some of them; and the
 -- limits, which none of them meets ("Steps"; "Judging and its count"). Assumes nothing.
-use Prim.Native.Nat.{ℕ, suc, _<_}
+use Prim.Native.Nat.{ℕ, suc, _-_, _<_}
 use native.Mathlib.Omega.{arith}
+use lib.ListN.{length}
 use mathlib.Core.Path.{_≡_, refl}
 use mathlib.Core.Bool.{Bool, true, false, _||_}
 use mathlib.Core.List.{List}
@@ -13,6 +14,8 @@ use Rattle.meaning.specs.Steps.State.{Bound, _▸_, written, worked, names, set
 use Rattle.meaning.specs.Judging.Limits.{over, overSettling}
 use Rattle.meaning.proofs.Test.{neither}
 use Rattle.meaning.proofs.Every.{every-map, every-joined}
+use Rattle.states.specs.Place.{ProcessAt}
+use Rattle.states.proofs.Laws.Process.{of-new, of-if, of-let, of-par, of-repl}
 use Rattle.positions.specs.Located.{Acting, acting, inside}
 use Rattle.positions.specs.Sought.{Opened, copies}
 use Rattle.positions.proofs.Laws.Located.{Part, new-part, then-part, else-part, let-part, left-part, right-part, repl-part, part-inside, inside-bounds}
@@ -20,6 +23,7 @@ use Rattle.positions.proofs.Laws.Located.{at-inside}
 use Rattle.positions.proofs.Laws.Walking.{Free, free-par, free-copy}
 use Rattle.walks.proofs.Laws.Course.{names-fit}
 use Rattle.ways.specs.Reach.{Site, Down, here, made, then, else, body, leftward, rightward, copied, offerSite, copySite, Allowed}
+use Rattle.ways.proofs.Laws.Reach.{longer}
 
 -- Each stands in the process.
 pub down-inside : {P : Process} {at : ℕ} {ρ : Bound} {n k : ℕ} (w : Site) → Down P at ρ n k w → inside (w .place) at P ≡ true
@@ -47,6 +51,29 @@ down-here w (body d) e = absurd (omega (arith, below w (let-part _ _ _) d))
 down-here w (leftward {Q = Q} d) e = absurd (omega (arith, below w (left-part _ _ Q) d))
 down-here w (rightward d) e = absurd (omega (arith, below w (right-part _ _ _) d))
 down-here w (copied d) e = absurd (omega (arith, below w (repl-part _ _) d))
+
+-- Where the process stands in a model, each does, and no deeper than the process may be.
+weaker : {s : List ℕ} {at left scope next : ℕ} {P : Process} → ProcessAt s at (left - 1) scope P next → ProcessAt s at left scope P next
+weaker p = record {
+  stands = p .stands;
+  deep = omega (arith, p .deep);
+  terms = p .terms;
+  scoped = p .scoped;
+  few = p .few;
+  indexed = p .indexed;
+  inside = p .inside;
+}
+
+pub down-process : {s : List ℕ} {P : Process} {at left next n k : ℕ} {ρ : Bound} (w : Site) → Down P at ρ n k w
+    → ProcessAt s at left (length ρ) P next → (to : ℕ) × ProcessAt s (w .place) left (length (w .bound)) (w .process) to
+down-process {next = next} w here p = (next, p)
+down-process w (made {P} {ρ = ρ} {n} d) p = down-process w d (weaker (rw (← longer ρ (leaf (private n))) at (of-new P p)))
+down-process w (then {M} {N} {P} {Q} t d) p = down-process w d (weaker (of-if M N P Q p .2))
+down-process w (else {M} {N} {P} {Q} t d) p = down-process w d (weaker (of-if M N P Q p .3))
+down-process w (body {M} {P} {ρ = ρ} d) p = down-process w d (weaker (rw (← longer ρ (worked ρ M)) at (of-let M P p .1)))
+down-process w (leftward {P} {Q} d) p = down-process w d (weaker (of-par P Q p .0))
+down-process w (rightward {P} {Q} d) p = down-process w d (weaker (of-par P Q p .1))
+down-process w (copied {P} d) p = down-process w d (weaker (of-repl P p))
 
 -- The offers, and the repl threads.
 abbrev OfferDown : Process → ℕ → Bound → (n k : ℕ) → Acting → Type 0

@@ -22,8 +22,4 @@ rest-spec = tie.close (tie.spec
     (λ c κs. search needs)
     (λ c. search needs)
     (λ c. search needs)
-    (λ c. (search (needs, extensions), (search (needs, to-ends), (search (needs, to-ends), search (needs, rests)))))
-    (λ c κs. search needs)
-    (λ c. search needs)
-    (λ c. search needs)
     (λ c. (search (needs, extensions), (search (needs, to-ends), (search (needs, to-ends), search (needs, rests))))))

@@ -10,4 +10,5 @@ large-spec = tie.close (tie.spec
     (λ c. search (needs, sizes))
     (λ c. search (needs, sizes))
     (λ c. search (needs, sizes))
+    (λ c. search (needs, sizes))
     (λ c. search (needs, sizes)))

@@ -16,4 +16,4 @@ follow-spec = tie.close (tie.spec
     (λ c κs. search needs)
     (λ c. search needs)
     (λ c. search needs)
-    (λ c. (search (needs, extensions), (search (needs, to-ends), (search (needs, to-ends), search (needs, followings))))))
+    (λ c. (search (needs, extensions), (search (needs, unchanged, to-ends), (search (needs, unchanged, to-ends), search (needs, followings))))))

@@ -13,6 +13,6 @@ settle-both-spec = tie.close (tie.spec
     (λ c κs. search needs)
     (λ c. search needs)
     (λ c. search needs)
-    (λ c. (search (needs, to-ends), (search (needs, both-behind), search (needs, boths))))
+    (λ c. (search (needs, unchanged, to-ends), (search (needs, unchanged, both-behind), search (needs, boths))))
     (λ c κs. search needs)
-    (λ c. (search (needs, unchanged, to-ends), (search (needs, unchanged), search (needs, boths)))))
+    (λ c. (search (needs, unchanged, to-ends), (search (needs, unchanged, both-behind), search (needs, boths)))))

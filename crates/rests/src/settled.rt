@@ -1,0 +1,65 @@
+// What follows an offer of a thread, in its copies if need be, settled ("Steps").
+use crate::numbers;
+use forms::rest;
+use nodes::node;
+use states::progress;
+use states::progress::Progress;
+use threads::place;
+ghost use Prim.Native.Nat.{_+_, _≤_};
+ghost use lib.ListN.{length};
+ghost use Rattle.nodes.specs.Buffer.{Within};
+ghost use Rattle.states.specs.Progress.{Extends};
+ghost use Rattle.rests.specs.Settled.{NilFollows, SettlesOffer};
+
+// The kind of nil.
+const NIL: usize = 0;
+
+// Whether nil follows the output or the input at a mark.
+fn ends(s: &[u8], mark: usize) -> bool
+    ensures { λ r. ⌜ NilFollows (now (s .entry)) mark r ⌝ }
+{
+    if mark == 0 {
+        return false;
+    }
+    let at = mark - 1;
+    if s.len() <= at {
+        return false;
+    }
+    let next = place::rest(s, at);
+    if s.len() <= next {
+        return false;
+    }
+    if node::wide(s[next]) == NIL {
+        return true;
+    }
+    false
+}
+
+// What follows the offer at a mark of the thread whose record stands at a position, settled behind what is written already, under the
+// message of the label too if it is an input. Copies open at a private name.
+pub fn behind(
+    s: &[u8],
+    label: &[u8],
+    at: usize,
+    opens: usize,
+    m: &mut [u8],
+    mark: usize,
+    out: &mut [u8],
+    done: Progress,
+) -> Progress
+    requires { ⌜ (at + 4 ≤ length (now out)) × (length (now s) ≤ 36864) ⌝ }
+    ensures { λ r. ⌜ Extends done r ⌝ }
+    ensures { λ _. ⌜ Within 0 (length (now (m .entry))) (now (m .entry)) (now (m .exit)) ⌝ }
+    ensures { λ _. ⌜ Within (done .state .end) (length (now (out .entry))) (now (out .entry)) (now (out .exit)) ⌝ }
+    ensures { λ r. ⌜ SettlesOffer (now (s .entry)) (now (label .entry)) at opens (now (m .entry)) mark (now (out .entry)) done r (now (out .exit)) ⌝ }
+{
+    if ends(s, mark) {
+        return done;
+    }
+    let offer = numbers::arrive(s, at, opens, m, mark, out);
+    let place = offer.at;
+    if s.len() <= place {
+        return progress::stop(done);
+    }
+    rest::offer(s, label, place, m, offer.end, out, done)
+}

@@ -1,0 +1,54 @@
+-- How many threads and nodes the copies that a step opens add to a state at most, besides what follows the processes that act ("Steps";
+-- "Judging and its count"). Assumes nothing.
+use mathlib.Core.Path.{_≡_}
+use mathlib.Core.List.{List, [], _∷_, _++_}
+use Prim.Native.Nat.{ℕ, _+_, _*_, _≤_}
+use lib.ListN.{length}
+use Rattle.meaning.specs.Messages.Term.{Message}
+use Rattle.meaning.specs.Steps.State.{State}
+use Rattle.states.specs.Record.{Placed}
+use Rattle.states.specs.declared.state.State as code
+use Rattle.positions.specs.Located.{Acting}
+use Rattle.positions.specs.Rebuilt.{nodesOf, restOf}
+use Rattle.moves.specs.Spot.{offersOf}
+use Rattle.moves.specs.Moves.{Move, alone, inside, between}
+use Rattle.moves.specs.Outcome.{replacedIn, boundAfter, senderRest, takerRest, outcome}
+use Rattle.moves.specs.CopyOffers.{ThreadAt}
+use Rattle.moves.specs.Held.{Held}
+use Rattle.moves.specs.Moving.{Leading, Moving}
+use Rattle.moves.specs.declared.step.Step as step
+use Rattle.successors.specs.declared.excess.Excess.{Excess}
+
+-- What follows the processes that act in a step; x is the message of an input.
+unfoldable pub restsIn : Message → Move → List Placed
+restsIn x (alone p a) = restOf a (boundAfter x a) (a .next)
+restsIn x (inside p w) = senderRest (w .pair) ++ takerRest (w .pair)
+restsIn x (between p q w) = senderRest w ++ takerRest w
+
+-- What is left has at most so much in it besides what was there and what follows.
+pub record Left (old rests left : List Placed) (e : Excess) : Type 0 where
+  pub few : length left ≤ length old + e .threads + length rests
+  pub light : nodesOf left ≤ nodesOf old + e .nodes + nodesOf rests
+
+-- What a process that spreads so much adds, if its messages have so many bytes: two for each node, and more.
+pub record Copies (spread size : ℕ) (e : Excess) : Type 0 where
+  pub threads : e .threads ≡ spread
+  pub nodes : (n : ℕ) → 2 * n ≤ size → spread * (n + spread) ≤ e .nodes
+
+-- So it is with whatever thread has its record there and whatever offer of it acts, unless nothing is said.
+pub record Opens (s : List ℕ) (to at : ℕ) (out : List ℕ) (e : Excess) : Type 0 where
+  pub exact : e .threads ≤ 32 → (t : Placed) {m : List ℕ} {k : ℕ} → ThreadAt s out m at k to t → (i j : ℕ) (a : Acting) (before after : List Acting)
+      → offersOf t i ≡ before ++ (a ∷ after) → (z : List Placed) → Left [] z (replacedIn t (a .place) j z) e
+
+-- What two threads add together, unless nothing is said.
+pub record Sums (d e r : Excess) : Type 0 where
+  pub first : r .threads ≤ 32 → d .threads ≤ 32
+  pub second : r .threads ≤ 32 → e .threads ≤ 32
+  pub threads : r .threads ≤ 32 → r .threads ≡ d .threads + e .threads
+  pub nodes : r .threads ≤ 32 → r .nodes ≡ d .nodes + e .nodes
+
+-- And with whatever step of whatever state.
+pub record Adds (s : List ℕ) (st : code.State) (v : step.Step) (out : List ℕ) (e : Excess) : Type 0 where
+  pub exact : e .threads ≤ 32 → (S : State) (h : Held s out st S) (x : Message) (w : Move) {message m : List ℕ}
+      → Moving s out st S h v x w message → Leading s st S m out
+      → Left (h .at .placed) (restsIn x w) (outcome (h .at .placed) (S .next) x w .threads) e
