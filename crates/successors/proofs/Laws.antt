@@ -5,6 +5,7 @@ pub mod RebuiltMarks
 pub mod RebuiltBoth
 pub mod Block
 pub mod Kept
+pub mod Halves
 pub mod Still
 pub mod RebuiltLeaves
 pub mod RebuiltMove
@@ -13,6 +14,7 @@ pub mod Lead
 pub mod Leads
 pub mod Bare
 pub mod Alone
+pub mod Around
 pub mod AloneForm
 pub mod AloneLead
 pub mod BareForm

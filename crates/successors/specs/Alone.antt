@@ -2,7 +2,7 @@
 use mathlib.Core.Path.{_≡_}
 use mathlib.Core.Bool.{Bool, true, false}
 use mathlib.Core.List.{List, _∷_, _++_}
-use Prim.Native.Nat.{ℕ, _+_, _≤_}
+use Prim.Native.Nat.{ℕ, _+_, _/_, _≤_}
 use lib.ListN.{length, getD}
 use Rattle.meaning.specs.Messages.Term.{Message}
 use Rattle.meaning.specs.Steps.State.{State}
@@ -18,7 +18,7 @@ use Rattle.forms.specs.Visit.{Labelled}
 use Rattle.forms.specs.Rest.{settledBehind}
 use Rattle.forms.specs.declared.form.Formed.{Formed}
 use Rattle.positions.specs.Located.{Acting}
-use Rattle.positions.specs.Rebuilt.{pushAll}
+use Rattle.positions.specs.Rebuilt.{nodesOf, pushAll}
 use Rattle.moves.specs.Spot.{Spot, recordAt}
 use Rattle.moves.specs.Moves.{alone}
 use Rattle.moves.specs.Outcome.{outcome, arrivalOf}
@@ -30,6 +30,8 @@ use Rattle.moves.specs.Moving.{Leading, Moving}
 use Rattle.moves.specs.declared.step.Step as step
 use Rattle.moves.specs.declared.step.Actor.{Actor}
 use Rattle.successors.specs.Tasks.{sends}
+use Rattle.successors.specs.Block.{BlockOf}
+use Rattle.successors.specs.declared.halves.Halves.{Halves}
 
 -- If the answer is yes, whatever thread has its record there is no repl.
 pub record Acts (s : List ℕ) (at : ℕ) (out : List ℕ) (b : Bool) : Type 0 where
@@ -49,13 +51,31 @@ pub record Follows (s : List ℕ) (to at : ℕ) (message m out : List ℕ) (now 
 abbrev pub replacedBy : Message → Spot → Going → Course
 replacedBy y p g = further (further (pushAll (p .before) g) (behindSpot y p)) (pushAll (p .behind))
 
--- Whatever thread has its record from a position to another, below the state that is being written: so all are written. A walk that goes no
--- further is left as it is.
-pub record Replaces (s : List ℕ) (st : code.State) (at next : ℕ) (message m out : List ℕ) (now r : Progress) (after : List ℕ) : Type 0 where
-  pub stopped : now .going ≡ false → r ≡ now
-  pub exact : (p : Spot) (y : Message) (g : Going) {k : ℕ} → Threads s out (st .start) k (p .before ++ (p .thread ∷ p .behind)) (st .end)
-      → at ≡ recordAt (st .start) p → next ≡ at + length (encodeRecord (p .thread)) → ThreadAt s out m at k (st .end) (p .thread)
-      → Labelled message y → g .names ≤ 28664 → st .end ≤ now .state .end → Shows s out now g → ShowsCourse s after r (replacedBy y p g)
+-- Whatever thread has its record from a position to another, below the state that is being written, if the blocks have the threads before it
+-- and behind it: so all are written. A walk that goes no further is left as it is.
+pub record Replaces (s : List ℕ) (st : code.State) (at next : ℕ) (b : Halves) (message m out : List ℕ) (now r : Progress) (after : List ℕ) : Type 0
+  where
+    pub stopped : now .going ≡ false → r ≡ now
+    pub exact : (p : Spot) (y : Message) (g : Going) {k : ℕ} → Threads s out (st .start) k (p .before ++ (p .thread ∷ p .behind)) (st .end)
+        → at ≡ recordAt (st .start) p → next ≡ at + length (encodeRecord (p .thread)) → ThreadAt s out m at k (st .end) (p .thread)
+        → BlockOf out (st .start) (p .before) (b .before) → BlockOf out next (p .behind) (b .behind) → Labelled message y → g .names ≤ 28664
+        → st .end ≤ now .state .end → Shows s out now g → ShowsCourse s after r (replacedBy y p g)
+
+-- The nodes of a message that is sent, if one is, whose run has so many bytes.
+abbrev pub sentNodes : (q : Bool) → (size : ℕ) → ℕ
+sentNodes true size = size / 2
+sentNodes false size = 0
+
+-- What the nodes of a state are without those of its aliases and of one thread.
+pub record Others (st : code.State) (q : Bool) (size : ℕ) (begun : Progress) (own r : ℕ) : Type 0 where
+  pub exact : (aliases others : ℕ) → st .nodes ≡ others + own + aliases → begun .state .nodes ≡ aliases + sentNodes q size → r ≡ others
+
+-- Whatever thread has its record there, the blocks have those before it and behind it.
+pub record Around (out : List ℕ) (st : code.State) (at next : ℕ) (q : Bool) (size : ℕ) (begun : Progress) (b : Halves) : Type 0 where
+  pub exact : (s : List ℕ) (p : Spot) (aliases : ℕ) {k : ℕ} → let ps = p .before ++ (p .thread ∷ p .behind) in
+      Threads s out (st .start) k ps (st .end) → at ≡ recordAt (st .start) p → next ≡ at + length (encodeRecord (p .thread))
+      → st .threads ≡ length ps → st .nodes ≡ nodesOf ps + aliases → st .nodes ≤ 1024 → begun .state .nodes ≡ aliases + sentNodes q size
+      → BlockOf out (st .start) (p .before) (b .before) × BlockOf out next (p .behind) (b .behind)
 
 -- Whatever step of such a thread this is: the state that it leads to.
 pub record LeadsAlone (s : List ℕ) (st : code.State) (q : Bool) (u : Actor) (message m out : List ℕ) (r : Formed) (after : List ℕ) : Type 0 where

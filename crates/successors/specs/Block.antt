@@ -61,9 +61,8 @@ pub record Keeps (out : List ℕ) (at : ℕ) (b : Block) (now r : Progress) (aft
   pub exact : (s : List ℕ) (ts : List Placed) (g : Going) → BlockOf out at ts b → b .end ≤ now .state .end → Every (Standing s) ts
       → Shows s out now g → ShowsCourse s after r (pushAll ts g)
 
--- Whatever threads have their records from a position to another, below those of the state that is being written, they are written there too. A
--- walk that goes no further is left as it is.
-pub record KeepsAll (out : List ℕ) (at to : ℕ) (now r : Progress) (after : List ℕ) : Type 0 where
+-- The same of a walk that may go no further: it is left as it is.
+pub record KeepsOn (out : List ℕ) (at : ℕ) (b : Block) (now r : Progress) (after : List ℕ) : Type 0 where
   pub stopped : now .going ≡ false → (r ≡ now) × (after ≡ out)
-  pub exact : (s : List ℕ) (ps : List Placed) (g : Going) {k : ℕ} → Threads s out at k ps to → to ≤ now .state .end → Shows s out now g
-      → ShowsCourse s after r (pushAll ps g)
+  pub exact : (s : List ℕ) (ts : List Placed) (g : Going) → BlockOf out at ts b → b .end ≤ now .state .end → Every (Standing s) ts
+      → Shows s out now g → ShowsCourse s after r (pushAll ts g)

@@ -4,4 +4,5 @@ pub mod Excess
 pub mod Alone
 pub mod Rebuild
 pub mod Block
+pub mod Halves
 pub mod Tasks

@@ -9,7 +9,7 @@ ghost use Prim.Native.Nat.{_+_, _≤_};
 ghost use lib.ListN.{length};
 ghost use Rattle.nodes.specs.Buffer.{Within};
 ghost use Rattle.states.specs.Progress.{Extends};
-ghost use Rattle.successors.specs.Block.{Still, Halts, HasRoom, Keeps, KeepsAll};
+ghost use Rattle.successors.specs.Block.{Still, Halts, HasRoom, Keeps, KeepsOn};
 
 // Where the records end, how many threads they are, and how many nodes their messages have.
 pub(crate) struct Block {
@@ -106,17 +106,16 @@ pub(crate) fn keep(out: &mut [u8], at: usize, block: Block, done: Progress) -> P
     }
 }
 
-// All the records from a position to another, written once more behind the state that is being written, if the walk still goes on.
-pub(crate) fn all(out: &mut [u8], at: usize, to: usize, done: Progress) -> Progress
-    requires { ⌜ (at ≤ to) × (to ≤ length (now out)) ⌝ }
+// The block, written once more behind the state that is being written, if the walk still goes on.
+pub(crate) fn again(out: &mut [u8], at: usize, block: Block, done: Progress) -> Progress
+    requires { ⌜ at ≤ block .end ⌝ }
     ensures { λ r. ⌜ Extends done r ⌝ }
     ensures { λ _. ⌜ Within (done .state .end) (length (now (out .entry))) (now (out .entry)) (now (out .exit)) ⌝ }
-    ensures { λ r. ⌜ KeepsAll (now (out .entry)) at to done r (now (out .exit)) ⌝ }
+    ensures { λ r. ⌜ KeepsOn (now (out .entry)) at block done r (now (out .exit)) ⌝ }
 {
     let going = done.going;
     if going {
-        let still = measure(out, at, to, to, to);
-        return keep(out, at, still, done);
+        return keep(out, at, block, done);
     }
     done
 }

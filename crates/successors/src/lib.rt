@@ -3,6 +3,7 @@ mod alone;
 mod bare;
 mod block;
 mod excess;
+mod halves;
 pub mod lead;
 mod rebuild;
 mod tasks;

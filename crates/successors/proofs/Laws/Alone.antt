@@ -2,15 +2,15 @@
 use mathlib.Core.Path.{_≡_, refl, sym, ap, _∙_}
 use mathlib.Core.Bool.{true, false, not, true≢false}
 use mathlib.Core.List.{List, [], _∷_, _++_}
-use Prim.Native.Nat.{ℕ, _+_, _-_, _<_}
+use Prim.Native.Nat.{ℕ, _+_, _-_, _≤_, _<_}
 use native.Mathlib.Omega.{arith}
 use lib.ListN.{length}
 use Rattle.meaning.specs.Places.{_also_}
 use Rattle.meaning.proofs.Every.{every-parts}
 use Rattle.meaning.proofs.Bytes.Reading.Place.{parts}
 use Rattle.nodes.specs.Buffer.{Within}
-use Rattle.nodes.proofs.Laws.Buffer.{unchanged, wider}
-use Rattle.states.specs.Record.{Placed, encodeRecord, encodeRecords}
+use Rattle.nodes.proofs.Laws.Buffer.{kept, unchanged, wider}
+use Rattle.states.specs.Record.{Placed, encodeRecords}
 use Rattle.states.specs.Course.{going, further}
 use Rattle.states.specs.Progress.{Extends}
 use Rattle.states.specs.declared.state.State as code
@@ -20,10 +20,12 @@ use Rattle.forms.specs.Rest.{Rests}
 use Rattle.positions.specs.Rebuilt.{pushAll}
 use Rattle.positions.proofs.Laws.Writing.{pushAll-names}
 use Rattle.moves.specs.Threads.{Threads}
-use Rattle.moves.proofs.Laws.Threads.{first-thread, threads-from, threads-kept, thread-kept}
+use Rattle.moves.proofs.Laws.Threads.{first-thread, threads-from, thread-kept}
 use Rattle.rests.proofs.Laws.Rests.{record-below}
 use Rattle.successors.specs.Alone.{behindSpot, Follows, Replaces}
-use Rattle.successors.specs.Block.{KeepsAll}
+use Rattle.successors.specs.Block.{BlockOf, KeepsOn}
+use Rattle.successors.specs.declared.block.Block.{Block}
+use Rattle.successors.specs.declared.halves.Halves.{Halves}
 use Rattle.successors.proofs.Laws.Bare.{then-shown}
 use Rattle.successors.proofs.Laws.Block.{records-joined}
 
@@ -57,7 +59,7 @@ module _ {s message m out : List ℕ} {to at : ℕ} {now : Progress} where
 pub ruleset followings = (follows-not, follows-none, follows-short, follows-rest)
 
 -- The threads before one end where its record begins.
-threads-before : {s out : List ℕ} {at k end : ℕ} (ls ts : List Placed) → Threads s out at k (ls ++ ts) end
+pub threads-before : {s out : List ℕ} {at k end : ℕ} (ls ts : List Placed) → Threads s out at k (ls ++ ts) end
     → Threads s out at k ls (at + length (encodeRecords ls))
 threads-before ls ts h =
     let (mid, first, rest) = parts (encodeRecords ls) (encodeRecords ts ∷ []) (rw (records-joined ls ts) at (h .stands)) in
@@ -67,29 +69,35 @@ threads-before ls ts h =
       judged = every-parts ls (h .judged) .0;
     }
 
+-- A block stays where nothing is written before its end.
+block-kept : {out out₁ : List ℕ} {at high from : ℕ} {b : Block} (ts : List Placed) → Within from high out out₁ → b .end ≤ from → BlockOf out at ts b
+    → BlockOf out₁ at ts b
+block-kept {from = from} ts w low h = record { stands = kept {low = from} (h .stands) low (w .below); threads = h .threads; nodes = h .nodes }
+
 -- Those before it are kept, what follows it is settled, and those behind it are kept.
-pub replaced : {s message m out out₁ out₂ after : List ℕ} {st : code.State} {at next : ℕ} {now r₁ r₂ r : Progress}
-    → KeepsAll out (st .start) at now r₁ out₁ → Extends now r₁ → Within (now .state .end) (length out) out out₁
+pub replaced : {s message m out out₁ out₂ after : List ℕ} {st : code.State} {at next : ℕ} {b : Halves} {now r₁ r₂ r : Progress}
+    → KeepsOn out (st .start) (b .before) now r₁ out₁ → Extends now r₁ → Within (now .state .end) (length out) out out₁
     → Follows s (st .end) at message m out₁ r₁ r₂ out₂ → Extends r₁ r₂ → Within (r₁ .state .end) (length out₁) out₁ out₂
-    → KeepsAll out₂ next (st .end) r₂ r after → Replaces s st at next message m out now r after
-replaced {s} {message} {m} {out} {out₁} {out₂} {after} {st} {at} {next} {now} {r₁} {r₂} {r} first e₁ w₁ second e₂ w₂ third = record {
+    → KeepsOn out₂ next (b .behind) r₂ r after → Replaces s st at next b message m out now r after
+replaced {s} {message} {m} {out} {out₁} {out₂} {after} {st} {at} {next} {b} {now} {r₁} {r₂} {r} first e₁ w₁ second e₂ w₂ third = record {
   stopped = λ off.
       let (same₁, bytes₁) = first .stopped off in
       let (same₂, bytes₂) = second .stopped (ap (λ q. q .going) same₁ ∙ off) in
       let (same, bytes) = third .stopped (ap (λ q. q .going) (same₂ ∙ same₁) ∙ off) in
       same ∙ same₂ ∙ same₁;
-  exact = λ p y g {k} h here there t i n low d.
-      let own : Threads s out (st .start) k (p .before) at = rw (sym here) at (threads-before (p .before) (p .thread ∷ p .behind) h) in
+  exact = λ p y g {k} h here there t before behind i n low d.
+      let (before-stand, others-stand) = every-parts (p .before) (h .standing) in
       let (a, j, rest) = first-thread (p .thread) (p .behind) (threads-from (p .before) (p .thread ∷ p .behind) h) in
-      let later : Threads s out next k (p .behind) (st .end) = rw (sym (there ∙ ap (λ n. n + length (encodeRecord (p .thread))) here)) at rest in
-      let shown = first .exact s (p .before) g own (omega (arith, t .recorded .stands .size, t .below)) d in
+      let shown = first .exact s (p .before) g before
+      (omega (arith, before .stands .size, t .recorded .stands .size, t .below)) before-stand d in
       let kept : Within (st .end) (length out) out out₁ = wider w₁ low (omega arith) in
       let here₁ = thread-kept (p .thread) kept (unchanged {low = 0} {high = 0}) t in
       let shown₁ = then-shown (pushAll (p .before) g) (behindSpot y p) shown (second .stopped)
       (λ f c v. second .exact (p .thread) y f here₁ i (omega (arith, pushAll-names (p .before) g f c)) v) in
-      let later₂ = threads-kept (p .behind) (records-twice w₁ w₂ e₁) low later in
+      let end : b .behind .end ≤ now .state .end = omega (arith, behind .stands .size, rest .stands .size) in
+      let behind₂ = block-kept (p .behind) (records-twice w₁ w₂ e₁) end behind in
       then-shown (further (pushAll (p .before) g) (behindSpot y p)) (pushAll (p .behind)) shown₁ (third .stopped)
-      (λ f c v. third .exact s (p .behind) f later₂ (omega (arith, e₁ .end, e₂ .end)) v);
+      (λ f c v. third .exact s (p .behind) f behind₂ (omega (arith, e₁ .end, e₂ .end)) (rest .standing) v);
 }
 
 -- All is written behind what is written already.

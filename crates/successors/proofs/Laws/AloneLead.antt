@@ -11,7 +11,7 @@ use lib.ListN.{length, getD}
 use Rattle.meaning.specs.Messages.Term.{Message}
 use Rattle.meaning.specs.Bytes.Process.{Process}
 use Rattle.meaning.specs.Steps.State.{Bound, State, repl}
-use Rattle.meaning.specs.Judging.Limits.{boundNodes}
+use Rattle.meaning.specs.Judging.Limits.{boundNodes, threadNodes}
 use Rattle.meaning.proofs.Every.{every-split}
 use Rattle.nodes.specs.Buffer.{Within}
 use Rattle.nodes.specs.Encoding.{numberAt}
@@ -28,6 +28,7 @@ use Rattle.walks.proofs.Laws.Crowd.{roomy}
 use Rattle.forms.specs.Form.{Forms, Finishes}
 use Rattle.forms.specs.declared.form.Formed.{Formed}
 use Rattle.positions.specs.Located.{Acting}
+use Rattle.positions.specs.Rebuilt.{nodesOf}
 use Rattle.positions.proofs.Laws.Copies.{split-at}
 use Rattle.moves.specs.Spot.{Spot, recordAt}
 use Rattle.moves.specs.Moves.{Move, alone, inside, between}
@@ -48,11 +49,13 @@ use Rattle.rests.proofs.Laws.Rests.{record-below}
 use Rattle.rests.proofs.Laws.RestsMoves.{Stood, moves-stood}
 use Rattle.rests.proofs.Laws.RestsSettled.{sender-alone, taker-alone}
 use Rattle.rests.proofs.Laws.RestsThread.{thread-at, later-few, offer-acts}
-use Rattle.alias_lists.specs.Aliases.{Begun, Carries}
+use Rattle.alias_lists.specs.Aliases.{appended, Begun, Carries}
 use Rattle.successors.specs.Tasks.{sends}
-use Rattle.successors.specs.Alone.{Acts, Replaces, LeadsUntil, LeadsAlone, LeadsOne}
+use Rattle.successors.specs.Alone.{Acts, Replaces, sentNodes, Around, LeadsUntil, LeadsAlone, LeadsOne}
 use Rattle.successors.specs.Lead.{Leads}
-use Rattle.successors.proofs.Laws.Lead.{written, full-written, formed-behind}
+use Rattle.successors.specs.declared.halves.Halves.{Halves}
+use Rattle.successors.proofs.Laws.Lead.{written, full-written, aliases-after, formed-behind}
+use Rattle.successors.proofs.Laws.Around.{appended-sum}
 use Rattle.successors.proofs.Laws.AloneForm.{replaced-alone}
 
 -- The thread of the step, and where its record ends.
@@ -97,22 +100,22 @@ module _ {s message m out after : List ℕ} {st : code.State} {q : Bool} {u : Ac
   }
 
 -- The aliases, and then the threads.
-leads-alone : {s message m out mid after : List ℕ} {st : code.State} {q : Bool} {u : Actor} {n : ℕ} {b r : Progress} {f : Formed}
-    → n ≡ numberAt out (u .at + 2) → Carries st message q (u .next) out b mid → st .end ≤ b .state .end → Within (st .end) (length out) out mid
-    → Replaces s st (u .at) (u .at + 4 + n) message m mid b r after → Extends b r → Within (b .state .end) (length mid) mid after → Finishes r f
+leads-alone : {s message m out mid after : List ℕ} {st : code.State} {q : Bool} {u : Actor} {n : ℕ} {b r : Progress} {halves : Halves} {f : Formed}
+    → n ≡ numberAt out (u .at + 2) → Around mid st (u .at) (u .at + 4 + n) q (length message) b halves → Carries st message q (u .next) out b mid → st .end ≤ b .state .end → Within (st .end) (length out) out mid
+    → Replaces s st (u .at) (u .at + 4 + n) halves message m mid b r after → Extends b r → Within (b .state .end) (length mid) mid after → Finishes r f
     → LeadsAlone s st q u message m out f after
-leads-alone {s} {message} {m} {out} {mid} {after} {st} {q} {u} {n} {b} {r} d carries above within replaces extends further finishes = record {
+leads-alone {s} {message} {m} {out} {mid} {after} {st} {q} {u} {n} {b} {r} {halves} d around carries above within replaces extends further finishes = record {
   exact = λ v S h x p a moving e own plain leading.
       formed-behind carries e extends above further finishes S h x (alone p a) moving leading
-      (λ off. ap (λ w. w .going) (replaces .stopped off) ∙ off) (shown v S h x p a moving own plain leading);
+      (λ off. ap (λ w. w .going) (replaces .stopped off) ∙ off) (shown v S h x p a moving e own plain leading);
 }
   where
     shown : (v : step.Step) (S : State) (h : Held s out st S) (x : Message) (p : Spot) (a : Acting) → Moving s out st S h v x (alone p a) message
-        → u ≡ actor (st .start) p a → (getD s (p .thread .place) 0 ≡ 7 → ⊥) → Leading s st S m out
+        → q ≡ sends (v .label) → u ≡ actor (st .start) p a → (getD s (p .thread .place) 0 ≡ 7 → ⊥) → Leading s st S m out
         → let o = outcome (h .at .placed) (S .next) x (alone p a) in
         boundNodes (S .aliases ++ o .alias) ≤ 1024 → Begun s (st .end) (S .aliases ++ o .alias) (u .next) b mid
         → ShowsCourse s after r (unless (restOver x (alone p a) || full S o) (going (written S o)))
-    shown v S h x p a moving own plain leading light begun =
+    shown v S h x p a moving e own plain leading light begun =
         let o = outcome (h .at .placed) (S .next) x (alone p a) in
         let aliases = S .aliases ++ o .alias in
         let at : u .at ≡ recordAt (st .start) p = ap (λ w. w .at) own in
@@ -131,16 +134,25 @@ leads-alone {s} {message} {m} {out} {mid} {after} {st} {q} {u} {n} {b} {r} d car
         let acts : (ρ : Bound) (P : Process) → p .thread .thread ≡ repl ρ P → ⊥ = λ ρ P z.
         plain (process-kind (processOf (p .thread .thread)) (standing .process) .0 ∙ ap (λ w. kindOf (processOf w)) z) in
         let course = replaced-alone (h .at .placed) (S .next) x (moving .stored) p a stands among judged acts g next (roomy g (omega arith) light) in
-        let all = replaces .exact p (carried x (alone p a)) g (threads-kept _ within (omega arith) (all-threads h p a moving)) at ends here
+        let there = threads-kept _ within (omega arith) (all-threads h p a moving) in
+        let y = carried x (alone p a) in
+        let same : appended q (S .aliases) y ≡ aliases =
+        ap (λ c. appended c (S .aliases) y) (e ∙ ap (λ w. sends (w .label)) (moving .same))
+        ∙ aliases-after (h .at .placed) (S .next) (st .start) x (S .aliases) (alone p a) in
+        let begins : b .state .nodes ≡ boundNodes (S .aliases) + sentNodes q (length message) =
+        begun .shows .nodes ∙ sym (ap boundNodes same) ∙ appended-sum q (S .aliases) y (moving .labelled) in
+        let (before, behind) = around .exact s p (boundNodes (S .aliases)) there at ends (h .at .many ∙ ap length (stands .parts))
+        (omega (arith, h .at .nodes, ap threadNodes (h .at .threads), ap nodesOf (stands .parts))) (h .light) begins in
+        let all = replaces .exact p y g there at ends here before behind
         (moving .labelled) (omega (arith, next, small, few, t .few)) above (begun .shows) in
         subst (λ (c : Bool). ShowsCourse s after r (unless (restOver x (alone p a) || c) (going (written S o)))) (full-written S o) (rw course at all)
 
-pub leads-until : {s message m out mid after : List ℕ} {st : code.State} {q : Bool} {u : Actor} {next : ℕ} {b r : Progress} {f : Formed}
-    → Carries st message q (u .next) out b mid → st .end ≤ b .state .end → Within (st .end) (length out) out mid
-    → Replaces s st (u .at) next message m mid b r after → Extends b r → Within (b .state .end) (length mid) mid after → Finishes r f
+pub leads-until : {s message m out mid after : List ℕ} {st : code.State} {q : Bool} {u : Actor} {next : ℕ} {b r : Progress} {halves : Halves}
+    {f : Formed} → Around mid st (u .at) next q (length message) b halves → Carries st message q (u .next) out b mid → st .end ≤ b .state .end → Within (st .end) (length out) out mid
+    → Replaces s st (u .at) next halves message m mid b r after → Extends b r → Within (b .state .end) (length mid) mid after → Finishes r f
     → LeadsUntil s st q u next message m out f after
-leads-until carries above within replaces extends further finishes = record {
-  exact = λ d e. leads-alone d carries above within (rw e at replaces) extends further finishes;
+leads-until around carries above within replaces extends further finishes = record {
+  exact = λ d e. leads-alone d (rw e at around) carries above within (rw e at replaces) extends further finishes;
 }
 
 pub alone-found : {s message m out after : List ℕ} {st : code.State} {q : Bool} {u : Actor} {n : ℕ} {f : Formed} → n ≡ numberAt out (u .at + 2)

@@ -80,7 +80,7 @@ on-going over-limit d on = absurd (true≢false (sym on ∙ d .off))
 on-going (found x n ms) d on = absurd (true≢false (sym on ∙ d .off))
 
 -- One message more has its nodes more.
-nodes-more : (ρ : Bound) (y : Message) → boundNodes (ρ ▸ y) ≡ boundNodes ρ + nodes y
+pub nodes-more : (ρ : Bound) (y : Message) → boundNodes (ρ ▸ y) ≡ boundNodes ρ + nodes y
 unfolding boundNodes
 nodes-more [] y = omega arith
 nodes-more (m ∷ ρ) y = omega (arith, nodes-more ρ y)

@@ -10,6 +10,7 @@ begin-spec = tie.close (tie.spec
     (λ c κs. search needs)
     (λ c κs. search needs)
     (λ c κs. search needs)
+    (λ c κs. search needs)
     (λ c. search needs)
     (λ c. search needs)
     (λ c. (search (needs, to-ends), (search (needs, to-end-twice), search (needs, leads-until)))))
