@@ -16,6 +16,7 @@ pub mod Everywhere
 pub mod Leads
 pub mod Rebuilt
 pub mod Spread
+pub mod SpreadCopies
 pub mod SpreadRoom
 pub mod Writing
 pub mod Marks

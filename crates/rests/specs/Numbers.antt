@@ -39,6 +39,12 @@ pub record Entered (s : List ℕ) (thread : Way) (m : List ℕ) (c : CopyAt) (ma
 pub record Enters (s : List ℕ) (thread : Way) (m : List ℕ) (c : CopyAt) (mark : ℕ) (r : Way) (after : List ℕ) : Type 0 where
   pub exact : (w : Opened) (a : Acting) → Entered s thread m c mark w a → (i : ℕ) × Arrives s after r (offerSite a i)
 
+-- Whatever offer in the copies of a repl thread of the thread has the mark: it is reached.
+pub record ComesIn (s : List ℕ) (at k : ℕ) (m : List ℕ) (c : CopyAt) (mark : ℕ) (out : List ℕ) (r : Way) (after : List ℕ) : Type 0 where
+  pub exact : (t : Placed) (pre post : List Opened) (w : Opened) (before behind : List Acting) (a : Acting) {to : ℕ} → ThreadAt s out m at k to t
+      → copiesOf t k ≡ pre ++ (w ∷ post) → c .place ≡ w .place + 1 → 1 ≤ c .mode → Later c w → (but : ℕ)
+      → copyOffers but c w ≡ before ++ (a ∷ behind) → mark ≡ a .place + 1 → (i : ℕ) × Arrives s after r (offerSite a i)
+
 -- Whatever offer of the thread has the mark, copies being opened at k: the private names after what follows it, settled at n.
 pub record Counts (s label : List ℕ) (at k : ℕ) (m : List ℕ) (mark n : ℕ) (out : List ℕ) (r : Counted) : Type 0 where
   pub exact : (t : Placed) (x : Message) (before after : List Acting) (a : Acting) {j to : ℕ} → ThreadAt s out m at j to t → Labelled label x

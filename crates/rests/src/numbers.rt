@@ -8,7 +8,7 @@ use ways::reach::Way;
 ghost use Prim.Native.Nat.{_+_, _≤_};
 ghost use lib.ListN.{length};
 ghost use Rattle.nodes.specs.Buffer.{Within};
-ghost use Rattle.rests.specs.Numbers.{Comes, Enters, Counts, CountsIn};
+ghost use Rattle.rests.specs.Numbers.{Comes, Enters, ComesIn, Counts, CountsIn};
 
 // The most process nodes on one path.
 const NODES: usize = 64;
@@ -80,6 +80,25 @@ fn enter(s: &[u8], thread: Way, m: &mut [u8], copy: CopyAt, mark: usize) -> Way
     reach::reach(s, again, m, mark)
 }
 
+// From the thread whose record stands at a position down to the offer at a mark in the copies of one of its repl threads.
+pub(crate) fn arrive_in(
+    s: &[u8],
+    at: usize,
+    opens: usize,
+    m: &mut [u8],
+    copy: CopyAt,
+    mark: usize,
+    out: &[u8],
+) -> Way
+    requires { ⌜ (at + 4 ≤ length (now out)) × (length (now s) ≤ 36864) ⌝ }
+    ensures { λ r. ⌜ r .end ≤ length (now (m .exit)) ⌝ }
+    ensures { λ _. ⌜ Within 0 (length (now (m .entry))) (now (m .entry)) (now (m .exit)) ⌝ }
+    ensures { λ r. ⌜ ComesIn (now (s .entry)) at opens (now (m .entry)) copy mark (now (out .entry)) r (now (m .exit)) ⌝ }
+{
+    let thread = arrive(s, at, opens, m, copy.place, out);
+    enter(s, thread, m, copy, mark)
+}
+
 // The private name after those of what follows the offer at a mark of the thread whose record stands at a position, settled at a private
 // name. Copies open at another one.
 pub fn count(
@@ -116,7 +135,6 @@ pub fn count_in(
     ensures { λ _. ⌜ Within 0 (length (now (m .entry))) (now (m .entry)) (now (m .exit)) ⌝ }
     ensures { λ r. ⌜ CountsIn (now (s .entry)) (now (label .entry)) at opens (now (m .entry)) copy mark names (now (out .entry)) r ⌝ }
 {
-    let thread = arrive(s, at, opens, m, copy.place, out);
-    let offer = enter(s, thread, m, copy, mark);
+    let offer = arrive_in(s, at, opens, m, copy, mark, out);
     count::rest(s, label, offer.at, offer.left, m, offer.end, names)
 }

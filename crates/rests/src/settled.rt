@@ -5,11 +5,13 @@ use nodes::node;
 use states::progress;
 use states::progress::Progress;
 use threads::place;
+use threads::task::CopyAt;
+use ways::reach::Way;
 ghost use Prim.Native.Nat.{_+_, _≤_};
 ghost use lib.ListN.{length};
 ghost use Rattle.nodes.specs.Buffer.{Within};
 ghost use Rattle.states.specs.Progress.{Extends};
-ghost use Rattle.rests.specs.Settled.{NilFollows, SettlesOffer};
+ghost use Rattle.rests.specs.Settled.{NilFollows, SettlesAt, SettlesOffer, SettlesOfferIn};
 
 // The kind of nil.
 const NIL: usize = 0;
@@ -35,6 +37,28 @@ fn ends(s: &[u8], mark: usize) -> bool
     false
 }
 
+// What follows the offer that a way has come to, settled behind what is written already.
+fn arrived(
+    s: &[u8],
+    label: &[u8],
+    offer: Way,
+    m: &mut [u8],
+    out: &mut [u8],
+    done: Progress,
+) -> Progress
+    requires { ⌜ (offer .end ≤ length (now m)) × (length (now s) ≤ 36864) ⌝ }
+    ensures { λ r. ⌜ Extends done r ⌝ }
+    ensures { λ _. ⌜ Within 0 (length (now (m .entry))) (now (m .entry)) (now (m .exit)) ⌝ }
+    ensures { λ _. ⌜ Within (done .state .end) (length (now (out .entry))) (now (out .entry)) (now (out .exit)) ⌝ }
+    ensures { λ r. ⌜ SettlesAt (now (s .entry)) (now (label .entry)) offer (now (m .entry)) (now (out .entry)) done r (now (out .exit)) ⌝ }
+{
+    let place = offer.at;
+    if s.len() <= place {
+        return progress::stop(done);
+    }
+    rest::offer(s, label, place, m, offer.end, out, done)
+}
+
 // What follows the offer at a mark of the thread whose record stands at a position, settled behind what is written already, under the
 // message of the label too if it is an input. Copies open at a private name.
 pub fn behind(
@@ -57,9 +81,30 @@ pub fn behind(
         return done;
     }
     let offer = numbers::arrive(s, at, opens, m, mark, out);
-    let place = offer.at;
-    if s.len() <= place {
-        return progress::stop(done);
+    arrived(s, label, offer, m, out, done)
+}
+
+// The same for an offer in the copies of a repl thread.
+pub fn behind_in(
+    s: &[u8],
+    label: &[u8],
+    at: usize,
+    opens: usize,
+    m: &mut [u8],
+    copy: CopyAt,
+    mark: usize,
+    out: &mut [u8],
+    done: Progress,
+) -> Progress
+    requires { ⌜ (at + 4 ≤ length (now out)) × (length (now s) ≤ 36864) ⌝ }
+    ensures { λ r. ⌜ Extends done r ⌝ }
+    ensures { λ _. ⌜ Within 0 (length (now (m .entry))) (now (m .entry)) (now (m .exit)) ⌝ }
+    ensures { λ _. ⌜ Within (done .state .end) (length (now (out .entry))) (now (out .entry)) (now (out .exit)) ⌝ }
+    ensures { λ r. ⌜ SettlesOfferIn (now (s .entry)) (now (label .entry)) at opens (now (m .entry)) copy mark (now (out .entry)) done r (now (out .exit)) ⌝ }
+{
+    if ends(s, mark) {
+        return done;
     }
-    rest::offer(s, label, place, m, offer.end, out, done)
+    let offer = numbers::arrive_in(s, at, opens, m, copy, mark, out);
+    arrived(s, label, offer, m, out, done)
 }

@@ -8,7 +8,7 @@ use Rattle.meaning.specs.Messages.Term.{Message}
 use Rattle.meaning.specs.Steps.State.{State}
 use Rattle.meaning.specs.Judging.Visits.{Arrival, arrived}
 use Rattle.states.specs.Place.{restAt}
-use Rattle.states.specs.Course.{Going, Course, over-limit, further}
+use Rattle.states.specs.Course.{Going, Course, further}
 use Rattle.states.specs.Shown.{Shows, ShowsCourse}
 use Rattle.states.specs.declared.state.State as code
 use Rattle.states.specs.declared.progress.Progress.{Progress}
@@ -19,11 +19,13 @@ use Rattle.forms.specs.declared.form.Formed.the-variants.{At}
 use Rattle.threads.specs.declared.task.Task.the-variants.{Settle}
 use Rattle.walks.specs.Walking.{go}
 use Rattle.positions.specs.Located.{Acting}
-use Rattle.moves.specs.Spot.{Spot, recordAt, offersOf}
+use Rattle.positions.specs.Joint.{Pair}
+use Rattle.positions.specs.Sought.{Opened}
+use Rattle.moves.specs.Spot.{Spot, recordAt, offersOf, copiesOf}
 use Rattle.moves.specs.Moves.{Move, alone, inside, between}
 use Rattle.moves.specs.Outcome.{boundAfter, outcome, arrivalOf}
-use Rattle.moves.specs.CopyOffers.{ThreadAt}
-use Rattle.moves.specs.Step.{actor}
+use Rattle.moves.specs.CopyOffers.{ThreadAt, Later, copyOffers, takersAt, butOf, jointWith}
+use Rattle.moves.specs.Step.{actor, stepOf}
 use Rattle.moves.specs.Held.{Held}
 use Rattle.moves.specs.Moving.{carried, Leading, Moving}
 use Rattle.moves.specs.declared.step.Step as step
@@ -44,11 +46,15 @@ pub data StandsFor : (quiet : Bool) → Arrival → Arrival → Type 0 where
 abbrev pub restFrom : Message → Acting → Going → Course
 restFrom y a g = go (a .rest) Settle y (restAt (a .place) (a .prefix)) (boundAfter y a) g
 
--- What follows the processes that act in a step. Those of the copies of one thread are left out.
+-- What follows a sender and a taker, the one after the other.
+abbrev pub bothFrom : Message → Pair → Course
+bothFrom y w = further (restFrom y (w .sender) (nothingYet (w .taker .next))) (restFrom y (w .taker))
+
+-- What follows the processes that act in a step.
 unfoldable pub settledRests : Message → Move → Course
 settledRests y (alone p a) = restFrom y a (nothingYet (a .next))
-settledRests y (inside p w) = over-limit
-settledRests y (between p q w) = further (restFrom y (w .sender) (nothingYet (w .taker .next))) (restFrom y (w .taker))
+settledRests y (inside p w) = bothFrom y (w .pair)
+settledRests y (between p q w) = bothFrom y w
 
 -- Whatever offer of a thread of the state acts, copies being opened at k: what follows it is settled. A walk that goes no further is left as
 -- it is.
@@ -58,6 +64,15 @@ pub record FollowsOffer (s : List ℕ) (st : code.State) (v : Actor) (k : ℕ) (
     pub exact : (p : Spot) (a : Acting) (y : Message) (g : Going) (before behind : List Acting) {j : ℕ}
         → ThreadAt s out m (recordAt (st .start) p) j (st .end) (p .thread) → Labelled message y → j ≤ k → k ≤ 28664 → g .names ≤ 28664
         → offersOf (p .thread) k ≡ before ++ (a ∷ behind) → v ≡ actor (st .start) p a → Shows s out now g → ShowsCourse s after r (restFrom y a g)
+
+-- The same for a taker in the copies of a repl thread w of the thread of the sender.
+pub record FollowsIn (s : List ℕ) (st : code.State) (v : step.Step) (message m out : List ℕ) (now r : Progress) (after : List ℕ) : Type 0 where
+  pub stopped : now .going ≡ false → (r ≡ now) × (after ≡ out)
+  pub exact : (p : Spot) (mode : ℕ) (w : Opened) (u : Pair) (y : Message) (g : Going) (pre post : List Opened) (before behind : List Acting)
+      → ThreadAt s out m (recordAt (st .start) p) (st .names) (st .end) (p .thread) → Labelled message y
+      → copiesOf (p .thread) (st .names) ≡ pre ++ (w ∷ post) → 1 ≤ mode → Later (takersAt mode w (u .sender)) w → g .names ≤ 28664
+      → copyOffers (butOf mode (u .sender)) (takersAt mode w (u .sender)) w ≡ before ++ (u .taker ∷ behind)
+      → v ≡ stepOf (st .start) (inside p (jointWith mode w u)) → Shows s out now g → ShowsCourse s after r (restFrom y (u .taker) g)
 
 -- Whatever step of whatever state this is: what follows the processes that act is settled.
 pub record Settles (s : List ℕ) (st : code.State) (v : step.Step) (message m out : List ℕ) (r : Progress) (after : List ℕ) : Type 0 where

@@ -5,15 +5,17 @@ use mathlib.Core.List.{List, [], _∷_, _++_}
 use Prim.Native.Nat.{ℕ, _+_, _*_, _≤_}
 use lib.ListN.{length}
 use Rattle.meaning.specs.Messages.Term.{Message}
-use Rattle.meaning.specs.Steps.State.{State}
+use Rattle.meaning.specs.Steps.State.{State, repl}
 use Rattle.states.specs.Record.{Placed}
 use Rattle.states.specs.declared.state.State as code
 use Rattle.positions.specs.Located.{Acting}
-use Rattle.positions.specs.Rebuilt.{nodesOf, restOf}
-use Rattle.moves.specs.Spot.{offersOf}
-use Rattle.moves.specs.Moves.{Move, alone, inside, between}
+use Rattle.positions.specs.Joint.{Pair}
+use Rattle.positions.specs.Sought.{Opened}
+use Rattle.positions.specs.Rebuilt.{alone, nodesOf, leftAt, restOf}
+use Rattle.moves.specs.Spot.{offersOf, copiesOf}
+use Rattle.moves.specs.Moves.{Move, inside, between}
 use Rattle.moves.specs.Outcome.{replacedIn, boundAfter, senderRest, takerRest, outcome}
-use Rattle.moves.specs.CopyOffers.{ThreadAt}
+use Rattle.moves.specs.CopyOffers.{ThreadAt, jointWith}
 use Rattle.moves.specs.Held.{Held}
 use Rattle.moves.specs.Moving.{Leading, Moving}
 use Rattle.moves.specs.declared.step.Step as step
@@ -21,7 +23,7 @@ use Rattle.successors.specs.declared.excess.Excess.{Excess}
 
 -- What follows the processes that act in a step; x is the message of an input.
 unfoldable pub restsIn : Message → Move → List Placed
-restsIn x (alone p a) = restOf a (boundAfter x a) (a .next)
+restsIn x (Move.alone p a) = restOf a (boundAfter x a) (a .next)
 restsIn x (inside p w) = senderRest (w .pair) ++ takerRest (w .pair)
 restsIn x (between p q w) = senderRest w ++ takerRest w
 
@@ -35,12 +37,20 @@ pub record Copies (spread size : ℕ) (e : Excess) : Type 0 where
   pub threads : e .threads ≡ spread
   pub nodes : (n : ℕ) → 2 * n ≤ size → spread * (n + spread) ≤ e .nodes
 
--- So it is with whatever thread has its record there and whatever offer of it acts, unless nothing is said.
+-- Three times as many.
+abbrev pub thrice : Excess → Excess
+thrice e = record { threads = e .threads + (e .threads + e .threads); nodes = e .nodes + (e .nodes + e .nodes) }
+
+-- So it is with whatever thread has its record there and whatever offer of it acts, unless nothing is said; and three times so if two act in
+-- the copies of a repl thread c of it.
 pub record Opens (s : List ℕ) (to at : ℕ) (out : List ℕ) (e : Excess) : Type 0 where
   pub exact : e .threads ≤ 32 → (t : Placed) {m : List ℕ} {k : ℕ} → ThreadAt s out m at k to t → (i j : ℕ) (a : Acting) (before after : List Acting)
       → offersOf t i ≡ before ++ (a ∷ after) → (z : List Placed) → Left [] z (replacedIn t (a .place) j z) e
+  pub joint : e .threads ≤ 32 → (t : Placed) {m : List ℕ} {k : ℕ} → ThreadAt s out m at k to t → (i j mode : ℕ) (c : Opened) (u : Pair)
+      (before after : List Opened) → copiesOf t i ≡ before ++ (c ∷ after) → (y z : List Placed)
+      → Left [] (y ++ z) (replacedIn t (c .place) j (leftAt (jointWith mode c u) y z ++ alone (c .place) (repl (c .bound) (c .copied)))) (thrice e)
 
--- What two threads add together, unless nothing is said.
+-- Two of these together, unless nothing is said.
 pub record Sums (d e r : Excess) : Type 0 where
   pub first : r .threads ≤ 32 → d .threads ≤ 32
   pub second : r .threads ≤ 32 → e .threads ≤ 32

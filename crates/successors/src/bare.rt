@@ -11,6 +11,7 @@ use forms::visit;
 use moves::step::Actor;
 use moves::step::Label;
 use moves::step::Step;
+use rests::names;
 use rests::settled;
 use states::progress;
 use states::progress::Progress;
@@ -19,7 +20,7 @@ ghost use Prim.Native.Nat.{_≤_};
 ghost use lib.ListN.{length};
 ghost use Rattle.nodes.specs.Buffer.{Within};
 ghost use Rattle.states.specs.Progress.{Extends};
-ghost use Rattle.successors.specs.Bare.{FollowsOffer, SettlesBoth, Settles, Bounds, Fits, FormsBare};
+ghost use Rattle.successors.specs.Bare.{FollowsOffer, FollowsIn, SettlesBoth, Settles, Bounds, Fits, FormsBare};
 
 // What follows the process that acts in a thread of a state, settled after what follows another. Its copies open at a private name.
 fn follow(
@@ -52,7 +53,48 @@ fn follow(
     settled::behind(s, message, at, opens, m, actor.mark, out, done)
 }
 
-// What follows the processes that act in a silent step, if they are in two threads.
+// What follows the taker of a silent step in the copies of one thread, settled after what follows the sender.
+fn follow_in(
+    s: &[u8],
+    state: State,
+    step: Step,
+    message: &[u8],
+    m: &mut [u8],
+    out: &mut [u8],
+    done: Progress,
+) -> Progress
+    requires { ⌜ (length (now s) ≤ 36864) × (state .end ≤ length (now out)) ⌝ }
+    ensures { λ r. ⌜ Extends done r ⌝ }
+    ensures { λ _. ⌜ Within 0 (length (now (m .entry))) (now (m .entry)) (now (m .exit)) ⌝ }
+    ensures { λ _. ⌜ Within (done .state .end) (length (now (out .entry))) (now (out .entry)) (now (out .exit)) ⌝ }
+    ensures { λ r. ⌜ FollowsIn (now (s .entry)) state step (now (message .entry)) (now (m .entry)) (now (out .entry)) done r (now (out .exit)) ⌝ }
+{
+    let going = done.going;
+    let taker = step.taker;
+    let at = taker.at;
+    if !going {
+        return done;
+    }
+    if state.end < 4 {
+        return progress::stop(done);
+    }
+    if state.end - 4 < at {
+        return progress::stop(done);
+    }
+    settled::behind_in(
+        s,
+        message,
+        at,
+        state.names,
+        m,
+        names::copies(step),
+        taker.mark,
+        out,
+        done,
+    )
+}
+
+// What follows the processes that act in a silent step, of two threads or in the copies of one.
 fn settle_both(
     s: &[u8],
     state: State,
@@ -71,11 +113,11 @@ fn settle_both(
     let mode = step.mode;
     let end = state.end;
     let begun = visit::begin(end, taker.next);
+    let sent = follow(s, state, sender, state.names, message, m, out, begun);
     if mode == 0 {
-        let sent = follow(s, state, sender, state.names, message, m, out, begun);
         return follow(s, state, taker, sender.next, message, m, out, sent);
     }
-    progress::stop(begun)
+    follow_in(s, state, step, message, m, out, sent)
 }
 
 // What follows the processes that act in a step.

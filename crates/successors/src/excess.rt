@@ -69,7 +69,7 @@ fn of_thread(s: &[u8], to: usize, at: usize, out: &[u8]) -> Excess
     )
 }
 
-// What two threads add together.
+// Two of these together.
 fn sum(first: Excess, second: Excess) -> Excess
     ensures { λ r. ⌜ Sums first second r ⌝ }
 {
@@ -91,7 +91,7 @@ fn sum(first: Excess, second: Excess) -> Excess
     }
 }
 
-// What a step adds, unless it is one of two copies of one thread.
+// What a step adds; one in the copies of one thread adds three times what the thread does.
 pub(crate) fn of_step(s: &[u8], state: State, step: Step, out: &[u8]) -> Excess
     requires { ⌜ (length (now s) ≤ 36864) × (state .end ≤ length (now out)) ⌝ }
     ensures { λ r. ⌜ Adds (now (s .entry)) state step (now (out .entry)) r ⌝ }
@@ -105,13 +105,11 @@ pub(crate) fn of_step(s: &[u8], state: State, step: Step, out: &[u8]) -> Excess
         Label::Output => of_thread(s, end, sender.at, out),
         Label::Input => of_thread(s, end, taker.at, out),
         Label::Silent => {
+            let one = of_thread(s, end, sender.at, out);
             if mode == 0 {
-                return sum(
-                    of_thread(s, end, sender.at, out),
-                    of_thread(s, end, taker.at, out),
-                );
+                return sum(one, of_thread(s, end, taker.at, out));
             }
-            open()
+            sum(one, sum(one, one))
         }
     }
 }

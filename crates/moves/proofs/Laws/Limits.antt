@@ -24,8 +24,8 @@ use Rattle.moves.specs.Outcome.{boundAfter, senderRest, takerRest, repla
 use Rattle.moves.specs.Threads.{Judged}
 use Rattle.moves.specs.Limits.{restOver, EveryMove, LimitsJudged, JudgedOn}
 use Rattle.moves.proofs.Laws.LimitsLeft.{Clear, clear-later, AllClear, settled-stored, rest-small}
-use Rattle.moves.proofs.Laws.LimitsReplaced.{Replaces, replaces}
-use Rattle.moves.proofs.Laws.LimitsPairs.{pair-opens}
+use Rattle.moves.proofs.Laws.LimitsReplaced.{Opens, Replaces, replaces}
+use Rattle.moves.proofs.Laws.LimitsPairs.{PairOpens, pair-opens}
 use Rattle.moves.proofs.Laws.LimitsJoints.{stepped, Joins, joins}
 use Rattle.moves.proofs.Laws.LimitsSpots.{Put, put-one, PutBoth, clear-parts, put-left, put-right}
 use Rattle.moves.proofs.Laws.LimitsOutcome.{Follows, follows-limits, follows-goes, settled-over, bound-after, alias-after}
@@ -40,9 +40,15 @@ unfolding settle
 alone-settled (act ρ p P) c = c also none
 alone-settled (repl ρ P) c = c also none
 
+-- The messages of what acts in a step.
+abbrev pub OpensTo : ℕ → Move → Type 0
+OpensTo k (alone p a) = Opens k a
+OpensTo k (inside p w) = PairOpens k (w .pair)
+OpensTo k (between p q w) = PairOpens k w
+
 module _ (ps : List Placed) (k : ℕ) (x : Message) (judged : Every (Judged k) ps) where
   abbrev Ends : Move → Type 0
-  Ends v = Follows k x (outcome ps k x v) (restOver x v)
+  Ends v = Follows k x (outcome ps k x v) (restOver x v) × OpensTo k v
 
   abbrev Offered : Spot → ℕ → Acting → Type 0
   Offered p m a = Replaces (processOf (p .thread .thread)) (p .thread .place) (boundOf (p .thread .thread)) 0 m a
@@ -67,15 +73,17 @@ module _ (ps : List Placed) (k : ℕ) (x : Message) (judged : Every (Judged k) p
       let (later, threads) = settled-below (a .rest) bound in
       let j = names (a .rest) σ m in
       let z = restOf a σ m in
-      let l = put j (omega (arith, r .opens .later)) (replacedIn (p .thread) (a .place) k z) z (r .left z j later) in
-      record {
-        later = omega (arith, r .opens .later);
-        over = ap (λ b. overSettling (a .rest) σ m || b) (l .over ∙ settled-over (a .rest) here σ m j);
-        stored = l .stored (settled-stored (a .rest) here σ m threads);
-        alias = bound-later later (alias-after a (r .opens .stored));
-        small = λ s e. l .small (rest-small (a .rest) here σ m e (bound-small x a s (r .opens .small)));
-        alias-small = alias-small a (r .opens .allowed);
-      }
+      let l = put j (omega (arith, r .opens .later)) (replacedIn (p .thread) (a .place) k z) z (r .left z j later) in (
+        record {
+          later = omega (arith, r .opens .later);
+          over = ap (λ b. overSettling (a .rest) σ m || b) (l .over ∙ settled-over (a .rest) here σ m j);
+          stored = l .stored (settled-stored (a .rest) here σ m threads);
+          alias = bound-later later (alias-after a (r .opens .stored));
+          small = λ s e. l .small (rest-small (a .rest) here σ m e (bound-small x a s (r .opens .small)));
+          alias-small = alias-small a (r .opens .allowed);
+        },
+        r .opens,
+      )
 
   -- A silent step of one thread, and one of two.
   ends-inside : (p : Spot) (w : Joint) → Joins (processOf (p .thread .thread)) (p .thread .place) (boundOf (p .thread .thread)) 0 k w
@@ -83,9 +91,11 @@ module _ (ps : List Placed) (k : ℕ) (x : Message) (judged : Every (Judged k) p
   unfolding outcome restOver
   ends-inside p w h put =
       let zx = senderRest (w .pair) in
-      let zy = takerRest (w .pair) in
-      met-follows (w .pair) _ (h .opens) (λ j le.
-      put j (omega (arith, h .opens .later)) (replacedIn (p .thread) (w .place) k (stepped w zx zy)) _ (h .left zx zy j le))
+      let zy = takerRest (w .pair) in (
+        met-follows (w .pair) _ (h .opens) (λ j le.
+            put j (omega (arith, h .opens .later)) (replacedIn (p .thread) (w .place) k (stepped w zx zy)) _ (h .left zx zy j le)),
+        h .opens,
+      )
 
   ends-between : (p q : Spot) (a c : Acting) → Offered p k a → Offered q (a .next) c
       → ((j : ℕ) → k ≤ j → PutBoth j (spots ps) p q) → Ends (between p q (record { sender = a; taker = c }))
@@ -94,10 +104,12 @@ module _ (ps : List Placed) (k : ℕ) (x : Message) (judged : Every (Judged k) p
       let w : Pair = record { sender = a; taker = c } in
       let zx = senderRest w in
       let zy = takerRest w in
-      let o = pair-opens a c (r .opens) (s .opens) in
-      met-follows w _ o (λ j le.
-      put j (omega (arith, o .later)) (replacedIn (p .thread) (a .place) k zx) zx (replacedIn (q .thread) (c .place) (a .next) zy) zy
-      (r .left zx j (omega (arith, s .opens .later))) (s .left zy j le))
+      let o = pair-opens a c (r .opens) (s .opens) in (
+        met-follows w _ o (λ j le.
+            put j (omega (arith, o .later)) (replacedIn (p .thread) (a .place) k zx) zx (replacedIn (q .thread) (c .place) (a .next) zy) zy
+            (r .left zx j (omega (arith, s .opens .later))) (s .left zy j le)),
+        o,
+      )
 
   -- So for all of them.
   labelled-ends : Stored k x → (output : Bool) (c : Message) → Every Ends (labelledMoves output c k ps)
@@ -140,9 +152,14 @@ module _ (ps : List Placed) (k : ℕ) (x : Message) (judged : Every (Judged k) p
 pub limitsJudged : LimitsJudged
 limitsJudged ps S x judged stored =
     let (labelled, silent) = ends ps (S .next) x judged stored in
-    (λ output c. every-map (λ v f. follows-limits S f) (labelled output c), every-map (λ v f. follows-limits S f) silent)
+    (λ output c. every-map (λ v (f, o). follows-limits S f) (labelled output c), every-map (λ v (f, o). follows-limits S f) silent)
 
 pub judgedOn : JudgedOn
 judgedOn ps S x judged stored small =
     let (labelled, silent) = ends ps (S .next) x judged stored in
-    (λ output c. every-map (λ v f. follows-goes S f small) (labelled output c), every-map (λ v f. follows-goes S f small) silent)
+    (λ output c. every-map (λ v (f, o). follows-goes S f small) (labelled output c), every-map (λ v (f, o). follows-goes S f small) silent)
+
+pub opensOn : (ps : List Placed) (k : ℕ) (x : Message) → Every (Judged k) ps → Stored k x → EveryMove (OpensTo k) k ps
+opensOn ps k x judged stored =
+    let (labelled, silent) = ends ps k x judged stored in
+    (λ output c. every-map (λ v (f, o). o) (labelled output c), every-map (λ v (f, o). o) silent)

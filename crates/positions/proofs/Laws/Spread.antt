@@ -16,32 +16,30 @@ use Rattle.meaning.specs.Judging.Limits.{boundNodes}
 use Rattle.states.specs.Place.{rightAt}
 use Rattle.states.specs.Record.{Placed, boundOf}
 use Rattle.indexes.specs.Entry.{spread}
-use Rattle.walks.specs.Settled.{settledAt}
 use Rattle.positions.specs.Located.{inside, replacedAs}
 use Rattle.positions.specs.Joint.{Joint, bothReplacedAs, leftAs}
 use Rattle.positions.specs.Rebuilt.{replacedAt, bothReplacedAt, leftAt, placedAt}
-use Rattle.positions.proofs.Laws.Located.{size, Part, new-part, then-part, else-part, left-part, right-part, repl-part}
-use Rattle.positions.proofs.Laws.Located.{outside, at-inside, part-inside, left-only}
-use Rattle.positions.proofs.Laws.Rebuilt.{replacedAt-outside}
+use Rattle.positions.proofs.Laws.Located.{Part, new-part, then-part, else-part, left-part, right-part, repl-part}
+use Rattle.positions.proofs.Laws.Located.{at-inside, part-inside, left-only}
 
 -- A spread that is not capped is the sum of those of the parts. The one of a `let` is always too large.
-new-sum : (P : Process) → spread (Process.new P) ≤ 32 → spread (Process.new P) ≡ 1 + spread P
+pub new-sum : (P : Process) → spread (Process.new P) ≤ 32 → spread (Process.new P) ≡ 1 + spread P
 unfolding spread
 new-sum P few = omega arith
 
-if-sum : (M N : Term) (P Q : Process) → spread (Process.if M N P Q) ≤ 32 → spread (Process.if M N P Q) ≡ spread P + spread Q
+pub if-sum : (M N : Term) (P Q : Process) → spread (Process.if M N P Q) ≤ 32 → spread (Process.if M N P Q) ≡ spread P + spread Q
 unfolding spread
 if-sum M N P Q few = omega arith
 
-let-large : (M : Term) (P : Process) → spread (Process.let-in M P) ≤ 32 → ⊥
+pub let-large : (M : Term) (P : Process) → spread (Process.let-in M P) ≤ 32 → ⊥
 unfolding spread
 let-large M P few = omega arith
 
-par-sum : (P Q : Process) → spread (Process.par P Q) ≤ 32 → spread (Process.par P Q) ≡ spread P + spread Q
+pub par-sum : (P Q : Process) → spread (Process.par P Q) ≤ 32 → spread (Process.par P Q) ≡ spread P + spread Q
 unfolding spread
 par-sum P Q few = omega arith
 
-repl-sum : (P : Process) → spread (Process.repl P) ≤ 32 → spread (Process.repl P) ≡ 1 + spread P
+pub repl-sum : (P : Process) → spread (Process.repl P) ≤ 32 → spread (Process.repl P) ≡ 1 + spread P
 unfolding spread
 repl-sum P few = omega arith
 
@@ -50,7 +48,7 @@ unfolding spread
 act-one p P = refl
 
 -- The nodes of one more message; a private name is one node.
-more-nodes : (ρ : Bound) (m : Message) → boundNodes (ρ ▸ m) ≡ boundNodes ρ + nodes m
+pub more-nodes : (ρ : Bound) (m : Message) → boundNodes (ρ ▸ m) ≡ boundNodes ρ + nodes m
 unfolding boundNodes
 more-nodes [] m = omega arith
 more-nodes (r ∷ ρ) m = omega (arith, more-nodes ρ m)
@@ -80,7 +78,7 @@ module _ {c : ℕ} {ρ : Bound} where
   room-copy P r = omega (arith, r, repl-sum P (r .few))
 
 -- The multiples of d by a sum, and by one more.
-times : {s : ℕ} (p q d : ℕ) → s ≡ p + q → s * d ≡ p * d + q * d
+pub times : {s : ℕ} (p q d : ℕ) → s ≡ p + q → s * d ≡ p * d + q * d
 times p q d e = ap (λ r. r * d) e ∙ add-mul p q d
 
 more-times : {s : ℕ} (p d : ℕ) → s ≡ 1 + p → s * d ≡ d + p * d
@@ -174,14 +172,6 @@ module _ (μ : List Placed → ℕ) (nothing : μ [] ≡ 0) (joined : (xs ys : L
     replaced-spread P at ρ n k few light =
         replaced-room P at ρ n k (μ z) (record { few = few; light = light }) (λ i. le-refl (μ z))
 
-  -- Nothing is replaced at the position behind a process.
-  pub settled-spread : (P : Process) (at : ℕ) (ρ : Bound) (n : ℕ) → spread P ≤ 32 → boundNodes ρ + spread P ≤ c
-      → μ (settledAt P at ρ n) ≤ spread P * d
-  settled-spread P at ρ n few light =
-      let x = at + size P in
-      let same = replacedAt-outside x [] P at ρ n n (outside x at P (λ low high. omega arith)) in
-      omega (arith, ap μ same, replaced-spread x [] P at ρ n n few light, nothing)
-
   module _ (x : ℕ) (zx : List Placed) (y : ℕ) (zy : List Placed) where
     both-room : (P : Process) (at : ℕ) (ρ : Bound) (n k j a b : ℕ) → Room c P ρ → Takes x at P (μ zx) a → Takes y at P (μ zy) b
         → μ (bothReplacedAt x zx y zy P at ρ n k j) ≤ spread P * d + a + b
@@ -219,7 +209,7 @@ module _ (μ : List Placed → ℕ) (nothing : μ [] ≡ 0) (joined : (xs ys : L
         by-either (inside x (at + 1) P) (λ e. omega (arith, replaced-room x zx (Process.repl P) at ρ n k a r f))
         (λ e. omega (arith, replaced-room y zy (Process.repl P) at ρ n j b r g))
 
-    pub both-spread : (P : Process) (at : ℕ) (ρ : Bound) (n k j : ℕ) → spread P ≤ 32 → boundNodes ρ + spread P ≤ c
+    both-spread : (P : Process) (at : ℕ) (ρ : Bound) (n k j : ℕ) → spread P ≤ 32 → boundNodes ρ + spread P ≤ c
         → μ (bothReplacedAt x zx y zy P at ρ n k j) ≤ spread P * d + μ zx + μ zy
     both-spread P at ρ n k j few light =
         both-room P at ρ n k j (μ zx) (μ zy) (record { few = few; light = light }) (λ i. le-refl (μ zx)) (λ i. le-refl (μ zy))

@@ -11,11 +11,12 @@ use Rattle.meaning.specs.Steps.State.{Bound, Thread, act, repl}
 use Rattle.meaning.specs.Judging.Limits.{boundNodes, threadNodes}
 use Rattle.states.specs.Record.{Placed, boundOf}
 use Rattle.indexes.specs.Entry.{spread}
-use Rattle.walks.specs.Settled.{settledAt, threadsOf}
+use Rattle.walks.specs.Settled.{threadsOf}
 use Rattle.walks.proofs.Laws.Crowd.{threadNodes-append}
 use Rattle.positions.specs.Joint.{Joint}
-use Rattle.positions.specs.Rebuilt.{nodesOf, replacedAt, bothReplacedAt, leftAt}
-use Rattle.positions.proofs.Laws.Spread.{settled-spread, replaced-spread, both-spread, left-spread}
+use Rattle.positions.specs.Rebuilt.{alone, nodesOf, replacedAt, leftAt}
+use Rattle.positions.proofs.Laws.Spread.{replaced-spread}
+use Rattle.positions.proofs.Laws.SpreadCopies.{Copied, inside-spread}
 
 -- The most nodes that the messages of one thread have.
 abbrev pub most : Process → Bound → ℕ
@@ -25,28 +26,19 @@ most P ρ = boundNodes ρ + spread P
 one-thread : {c : ℕ} (t : Placed) → boundNodes (boundOf (t .thread)) ≤ c → length (t ∷ []) ≤ 1
 one-thread t l = le-refl 1
 
-pub few-settled : (P : Process) (at : ℕ) (ρ : Bound) (n : ℕ) → spread P ≤ 32 → length (settledAt P at ρ n) ≤ spread P
-few-settled P at ρ n few =
-    let c = most P ρ in
-    omega (arith, settled-spread length refl length-append c 1 one-thread P at ρ n few (le-refl c))
-
 pub few-replaced : (x : ℕ) (z : List Placed) (P : Process) (at : ℕ) (ρ : Bound) (n k : ℕ) → spread P ≤ 32
     → length (replacedAt x z P at ρ n k) ≤ spread P + length z
 few-replaced x z P at ρ n k few =
     let c = most P ρ in
     omega (arith, replaced-spread length refl length-append c 1 one-thread x z P at ρ n k few (le-refl c))
 
-pub few-both : (x : ℕ) (zx : List Placed) (y : ℕ) (zy : List Placed) (P : Process) (at : ℕ) (ρ : Bound) (n k j : ℕ) → spread P ≤ 32
-    → length (bothReplacedAt x zx y zy P at ρ n k j) ≤ spread P + length zx + length zy
-few-both x zx y zy P at ρ n k j few =
+pub few-inside : (w : Joint) (zx zy : List Placed) (P : Process) (at : ℕ) (ρ : Bound) (n k : ℕ) → spread P ≤ 32
+    → Copied P ρ (w .bound) (w .copied)
+    → length (replacedAt (w .place) (leftAt w zx zy ++ alone (w .place) (repl (w .bound) (w .copied))) P at ρ n k)
+    ≤ spread P + spread P + spread P + length zx + length zy
+few-inside w zx zy P at ρ n k few copied =
     let c = most P ρ in
-    omega (arith, both-spread length refl length-append c 1 one-thread x zx y zy P at ρ n k j few (le-refl c))
-
-pub few-left : (w : Joint) (zx zy : List Placed) → spread (w .copied) ≤ 32
-    → length (leftAt w zx zy) ≤ spread (w .copied) + spread (w .copied) + length zx + length zy
-few-left w zx zy few =
-    let c = most (w .copied) (w .bound) in
-    omega (arith, left-spread length refl length-append c 1 one-thread w zx zy few (le-refl c))
+    omega (arith, inside-spread length refl length-append c 1 one-thread w zx zy P at ρ n k few (le-refl c) copied)
 
 -- The number of nodes: each thread has those of its messages.
 pub nodes-none : nodesOf [] ≡ 0
@@ -64,25 +56,17 @@ alone-nodes (repl ρ P) = add-zero _
 one-light : {c : ℕ} (t : Placed) → boundNodes (boundOf (t .thread)) ≤ c → nodesOf (t ∷ []) ≤ c
 one-light t l = omega (arith, alone-nodes (t .thread))
 
-pub light-settled : (P : Process) (at : ℕ) (ρ : Bound) (n : ℕ) → spread P ≤ 32 → nodesOf (settledAt P at ρ n) ≤ spread P * most P ρ
-light-settled P at ρ n few =
-    let c = most P ρ in
-    settled-spread nodesOf nodes-none nodes-joined c c one-light P at ρ n few (le-refl c)
-
 pub light-replaced : (x : ℕ) (z : List Placed) (P : Process) (at : ℕ) (ρ : Bound) (n k : ℕ) → spread P ≤ 32
     → nodesOf (replacedAt x z P at ρ n k) ≤ spread P * most P ρ + nodesOf z
 light-replaced x z P at ρ n k few =
     let c = most P ρ in
     replaced-spread nodesOf nodes-none nodes-joined c c one-light x z P at ρ n k few (le-refl c)
 
-pub light-both : (x : ℕ) (zx : List Placed) (y : ℕ) (zy : List Placed) (P : Process) (at : ℕ) (ρ : Bound) (n k j : ℕ) → spread P ≤ 32
-    → nodesOf (bothReplacedAt x zx y zy P at ρ n k j) ≤ spread P * most P ρ + nodesOf zx + nodesOf zy
-light-both x zx y zy P at ρ n k j few =
+pub light-inside : (w : Joint) (zx zy : List Placed) (P : Process) (at : ℕ) (ρ : Bound) (n k : ℕ) → spread P ≤ 32
+    → Copied P ρ (w .bound) (w .copied)
+    → let s = spread P * most P ρ in
+    nodesOf (replacedAt (w .place) (leftAt w zx zy ++ alone (w .place) (repl (w .bound) (w .copied))) P at ρ n k)
+    ≤ s + s + s + nodesOf zx + nodesOf zy
+light-inside w zx zy P at ρ n k few copied =
     let c = most P ρ in
-    both-spread nodesOf nodes-none nodes-joined c c one-light x zx y zy P at ρ n k j few (le-refl c)
-
-pub light-left : (w : Joint) (zx zy : List Placed) → spread (w .copied) ≤ 32
-    → let s = spread (w .copied) * most (w .copied) (w .bound) in nodesOf (leftAt w zx zy) ≤ s + s + nodesOf zx + nodesOf zy
-light-left w zx zy few =
-    let c = most (w .copied) (w .bound) in
-    left-spread nodesOf nodes-none nodes-joined c c one-light w zx zy few (le-refl c)
+    inside-spread nodesOf nodes-none nodes-joined c c one-light w zx zy P at ρ n k few (le-refl c) copied

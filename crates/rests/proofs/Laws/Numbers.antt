@@ -1,7 +1,7 @@
 -- The offer at a mark is reached from the record of its thread, and in the copies of a repl thread; the private names of what follows it are
 -- counted ("Steps"). Assumes nothing.
 use mathlib.Core.Path.{_≡_, sym, _∙_}
-use mathlib.Core.Bool.{true, false}
+use mathlib.Core.Bool.{Bool, true, false}
 use mathlib.Core.List.{List, _∷_, _++_}
 use Prim.Native.Nat.{ℕ, _+_, _-_, _*_, _≤_, _<_}
 use native.Mathlib.Omega.{arith}
@@ -32,17 +32,16 @@ use Rattle.threads.specs.declared.task.Task.the-variants.{Count}
 use Rattle.threads.specs.declared.task.CopyAt.{CopyAt}
 use Rattle.states.specs.declared.stored.Loaded.{Loaded}
 use Rattle.walks.proofs.Laws.Fits.{later-fewer}
-use Rattle.states.proofs.Laws.Progress.{to-end, to-end-again, to-end-twice}
+use Rattle.states.proofs.Laws.Progress.{to-end, to-end-twice}
 use Rattle.states.proofs.Laws.Process.{process-kind}
 use Rattle.positions.specs.Located.{Acting, acting}
-use Rattle.positions.specs.Joint.{actingBut}
 use Rattle.positions.specs.Sought.{Opened, offersBut}
 use Rattle.positions.proofs.Laws.Walking.{Free, free-later}
 use Rattle.ways.specs.Reach.{offerSite, copySite, Allowed, Arrives, Reaches, CountsRest}
 use Rattle.moves.specs.Outcome.{boundAfter}
 use Rattle.moves.specs.CopyOffers.{ThreadAt, copyOffers}
 use Rattle.forms.specs.Visit.{Labelled}
-use Rattle.rests.specs.Numbers.{Comes, Entered, Enters, Counts, CountsIn}
+use Rattle.rests.specs.Numbers.{Comes, Entered, Enters, ComesIn, Counts, CountsIn}
 use Rattle.ways.specs.declared.reach.Way.{Way}
 use Rattle.moves.proofs.Laws.LimitsPairs.{but-every}
 use Rattle.forms.proofs.Laws.Visit.{bound-short, names-small}
@@ -114,13 +113,16 @@ thread-counted {k = k} short f g = record {
       behind-counted a short g (f .exact t (offerSite a j) h later small d e) i few;
 }
 
+-- What holds at every place of two lists holds at every place of the one that is chosen.
+pub chosen : {A : Type 0} {Q : A → Type 0} {xs ys : List A} (b : Bool) → Every Q xs → Every Q ys → Every Q (elim b [ true ↦ xs | false ↦ ys ])
+chosen true p q = p
+chosen false p q = q
+
 -- The offers of a copy are some of the offers of what is copied.
-some-offers : (but : ℕ) {Q : Acting → Type 0} (P : Process) (at : ℕ) (ρ : Bound) (n k : ℕ) → Every Q (acting P at ρ n k)
+pub some-offers : (but : ℕ) {Q : Acting → Type 0} (P : Process) (at : ℕ) (ρ : Bound) (n k : ℕ) → Every Q (acting P at ρ n k)
     → Every Q (offersBut but P at ρ n k)
 unfolding offersBut
-some-offers but {Q} P at ρ n k e =
-    elim (eqb but 0) as (λ b. Every Q (elim b [ true ↦ acting P at ρ n k | false ↦ actingBut (but - 1) P at ρ n k ]))
-    [ true ↦ e | false ↦ but-every (but - 1) P at ρ n k e ]
+some-offers but P at ρ n k e = chosen (eqb but 0) e (but-every (but - 1) P at ρ n k e)
 
 same-offers : (but : ℕ) (c : CopyAt) (w : Opened) → c .mode ≡ 1
     → copyOffers but c w ≡ offersBut but (w .copied) (w .place + 1) (w .bound) (w .opens) (c .second)
@@ -196,16 +198,16 @@ module _ {s m m₁ : List ℕ} {mark : ℕ} {thread r : Way} {c : CopyAt} where
 
 pub ruleset entering = (enter-same, enter-second, enter-short, enter-past)
 
-pub copy-counted : {s label m m₁ m₂ out : List ℕ} {at k mark n : ℕ} {thread r : Way} {c : CopyAt} {v : Counted} → length s ≤ 36864
-    → Comes s at k m (c .place) out thread m₁ → Enters s thread m₁ c mark r m₂ → CountsRest s label (r .at) (r .left) m₂ (r .end) n v
-    → CountsIn s label at k m c mark n out v
-copy-counted {k = k} short f g v = record {
-  exact = λ t x pre post w before after a h i small copied place again later but listed e.
+-- An offer in the copies of a repl thread is reached by way of that thread.
+pub copy-arrives : {s m m₁ m₂ out : List ℕ} {at k mark : ℕ} {thread r : Way} {c : CopyAt} → Comes s at k m (c .place) out thread m₁
+    → Enters s thread m₁ c mark r m₂ → ComesIn s at k m c mark out r m₂
+copy-arrives {k = k} f g = record {
+  exact = λ t pre post w before behind a h copied place again later but listed e.
       let P = processOf (t .thread) in
       let ρ = boundOf (t .thread) in
       let (j, d) = listed-one pre w post copied (copies-down P (t .place) ρ 0 k) in
       let opening = listed-one pre w post copied (opened-all P (t .place) ρ 0 k (judged-clear t 0 (h .judged))) in
-      let (o, reached) = g .exact w a (record {
+      g .exact w a (record {
         settled = j;
         arrived = f .exact t (copySite w j) h (le-refl k) (omega (arith, h .few)) d place;
         stored = opening .stored;
@@ -213,22 +215,25 @@ copy-counted {k = k} short f g v = record {
         later = later;
         but = but;
         before = before;
-        behind = after;
+        behind = behind;
         listed = listed;
         meant = e;
-      }) in
+      });
+}
+
+pub copy-counted : {s label m m₁ out : List ℕ} {at k mark n : ℕ} {r : Way} {c : CopyAt} {v : Counted} → length s ≤ 36864
+    → ComesIn s at k m c mark out r m₁ → CountsRest s label (r .at) (r .left) m₁ (r .end) n v → CountsIn s label at k m c mark n out v
+copy-counted short f v = record {
+  exact = λ t x pre post w before after a h i small copied place again later but listed e.
+      let (o, reached) = f .exact t pre post w before after a h copied place again later but listed e in
       behind-counted a short v reached i small;
 }
 
--- What is written stands in m anywhere, after one call, after two and after three.
+-- What is written stands in m anywhere, after one call and after two.
 pub from-front : {s t : List ℕ} {low high : ℕ} → Within low high s t → Within 0 (length s) s t
 from-front w = wider (to-end w) (omega arith) (omega arith)
 
 pub after-two : {s t u : List ℕ} {low high high₁ : ℕ} → Within 0 high s t → Within low high₁ t u → Within 0 (length s) s u
 after-two w v = to-end-twice w v (omega arith)
 
-pub after-three : {s t u v : List ℕ} {low high high₁ high₂ : ℕ} → Within 0 high s t → Within 0 high₁ t u → Within low high₂ u v
-    → Within 0 (length s) s v
-after-three a b c = after-two (to-end-again a b) c
-
-pub ruleset frames = (from-front, after-two, after-three, unchanged)
+pub ruleset frames = (from-front, after-two, unchanged)

@@ -1,11 +1,10 @@
 -- The threads and the offers of a step of a state: where they stand in their lists, and at which private names ("Steps"). Assumes nothing.
-use Prim.Native.Nat.{ℕ, _+_, _-_, _≤_}
+use Prim.Native.Nat.{ℕ, _+_, _≤_}
 use native.Mathlib.Omega.{arith}
 use native.Mathlib.Nat.{le-refl}
 use mathlib.Core.Path.{_≡_, refl, sym, ap}
 use mathlib.Core.Bool.{Bool, true, false}
 use mathlib.Core.List.{List, [], _∷_, _++_, append-assoc}
-use lib.Dec.{eqb}
 use Rattle.meaning.specs.Messages.Term.{Message}
 use Rattle.meaning.specs.Messages.Normal.{equal}
 use Rattle.meaning.specs.Bytes.Process.{Prefix, output, input, Process}
@@ -18,7 +17,7 @@ use Rattle.walks.specs.News.{news, laterNews}
 use Rattle.walks.proofs.Laws.Course.{names-fit}
 use Rattle.walks.proofs.Laws.Fits.{later-fewer}
 use Rattle.positions.specs.Located.{Acting, acting, prefixed}
-use Rattle.positions.specs.Joint.{Pair, matching, actingBut, Joint, pairOf}
+use Rattle.positions.specs.Joint.{Pair, matching, Joint, pairOf}
 use Rattle.positions.specs.Sought.{wanted, offersBut, Opened, copies}
 use Rattle.positions.proofs.Laws.Everywhere.{every-and, every-mapped, every-flatMap, matching-every}
 use Rattle.moves.specs.Spot.{Spot, spots, offersOf, copiesOf}
@@ -29,11 +28,11 @@ use Rattle.moves.specs.CopyMoves.{groupMoves, copyMoves}
 use Rattle.moves.specs.Behind.{movesOf}
 use Rattle.moves.specs.declared.step.Label.{Label}
 use Rattle.moves.specs.declared.step.Label.the-variants.{Output, Input, Silent}
-use Rattle.moves.proofs.Laws.LimitsPairs.{but-every}
 use Rattle.moves.proofs.Laws.MovesSpots.{Stands, spots-stand}
 use Rattle.moves.proofs.Laws.Opened.{names-later, Acts, acting-all}
 use Rattle.moves.proofs.Laws.CopyMoves.{pairs-flat, silentMoves-parts}
 use Rattle.moves.proofs.Laws.MovesLists.{every-filter}
+use Rattle.rests.proofs.Laws.Numbers.{some-offers}
 
 -- An element of a list, with what comes before it and after it.
 module _ {A : Type 0} where
@@ -122,20 +121,13 @@ matching-both {Q} a c =
     matching-every (λ a c. Sends a → Takes c → Q (pairOf a c)) a c (λ C M D h. h (record { bound = λ z. refl }) (record { bound = λ z. refl }))
 
 -- The offers in a copy once more, and those of a second one, which come after the second name.
-but-some : (but : ℕ) {Q : Acting → Type 0} (P : Process) (at : ℕ) (ρ : Bound) (n k : ℕ) → Every Q (acting P at ρ n k)
-    → Every Q (offersBut but P at ρ n k)
-unfolding offersBut
-but-some but {Q} P at ρ n k h =
-    elim (eqb but 0) as (λ b. Every Q (elim b [ true ↦ acting P at ρ n k | false ↦ actingBut (but - 1) P at ρ n k ]))
-    [ true ↦ h | false ↦ but-every (but - 1) P at ρ n k h ]
-
 abbrev CopyActs : (mode : ℕ) → Opened → Acting → Type 0
 CopyActs mode w a = Every (Acts (a .next) (news (w .copied))) (copyOffers (butOf mode a) (takersAt mode w a) w)
 
 acts-one : (w : Opened) (a : Acting) → CopyActs 1 w a
 unfolding copyOffers
 acts-one w a =
-    but-some _ (w .copied) _ (w .bound) (w .opens) (a .next)
+    some-offers _ (w .copied) _ (w .bound) (w .opens) (a .next)
     (every-map (λ b h. record { later = h .later; small = omega (arith, h .small, later-fewer (w .copied)) })
     (acting-all (w .copied) _ (w .bound) (w .opens) (a .next)))
 
@@ -144,7 +136,7 @@ unfolding copyOffers
 acts-two w a =
     let from = names-later (w .copied) (w .bound) (a .next) in
     let fit = names-fit (w .copied) (w .bound) (a .next) in
-    but-some _ (w .copied) _ (w .bound) (a .next) _
+    some-offers _ (w .copied) _ (w .bound) (a .next) _
     (every-map (λ b h. record { later = omega (arith, h .later, from); small = omega (arith, h .small, fit) })
     (acting-all (w .copied) _ (w .bound) (a .next) (names (w .copied) (w .bound) (a .next))))
 

@@ -2,31 +2,39 @@
 use mathlib.Core.Path.{_≡_, refl, sym, _∙_}
 use mathlib.Core.Bool.{Bool, true, false, true≢false}
 use mathlib.Core.List.{List, _∷_, _++_}
-use Prim.Native.Nat.{ℕ, _-_, _≤_}
+use Prim.Native.Nat.{ℕ, _+_, _-_, _≤_}
 use native.Mathlib.Omega.{arith}
+use lib.Dec.{eqb}
 use lib.ListN.{length, getD}
 use Rattle.meaning.specs.Messages.Term.{Message}
 use Rattle.meaning.specs.Bytes.Process.{Prefix, output, input, Process}
-use Rattle.meaning.specs.Places.{none, _also_}
+use Rattle.meaning.specs.Places.{Every, none, _also_}
+use Rattle.meaning.specs.Steps.State.{act, names}
+use Rattle.meaning.proofs.Every.{every-map}
 use Rattle.states.specs.Place.{ProcessAt, restAt}
 use Rattle.states.specs.Record.{Placed, processOf, boundOf}
+use Rattle.states.specs.Course.{Going}
+use Rattle.states.specs.Shown.{Shows, ShowsCourse}
 use Rattle.states.specs.declared.progress.Progress.{Progress}
-use Rattle.states.proofs.Laws.Process.{process-kind, shaped, after-output, after-input}
+use Rattle.states.proofs.Laws.Process.{process-kind, shaped, after-output, after-input, of-repl}
+use Rattle.states.proofs.Laws.Written.{stands-there}
 use Rattle.threads.specs.Thread.{Rests}
 use Rattle.threads.specs.declared.task.Task.the-variants.{Settle}
+use Rattle.threads.specs.declared.task.CopyAt.{CopyAt}
 use Rattle.walks.specs.Walking.{go}
 use Rattle.positions.specs.Located.{Acting}
-use Rattle.moves.specs.Spot.{offersOf}
+use Rattle.positions.specs.Sought.{Opened, offersBut}
+use Rattle.moves.specs.Spot.{offersOf, copiesOf}
 use Rattle.moves.specs.Outcome.{boundAfter}
-use Rattle.moves.specs.CopyOffers.{ThreadAt}
+use Rattle.moves.specs.CopyOffers.{ThreadAt, copyOffers}
 use Rattle.forms.specs.Rest.{boundBehind, SettlesRest}
 use Rattle.forms.proofs.Laws.Visit.{names-small}
-use Rattle.ways.specs.Reach.{Down, offerSite}
+use Rattle.ways.specs.Reach.{Down, offerSite, copySite}
 use Rattle.ways.specs.declared.reach.Way.{Way}
-use Rattle.ways.proofs.Laws.ReachDown.{offers-down, down-process}
-use Rattle.rests.specs.Numbers.{Comes}
-use Rattle.rests.specs.Settled.{NilFollows, SettlesOffer}
-use Rattle.rests.proofs.Laws.Numbers.{listed-one}
+use Rattle.ways.proofs.Laws.ReachDown.{offers-down, copies-down, down-process}
+use Rattle.rests.specs.Numbers.{Comes, ComesIn}
+use Rattle.rests.specs.Settled.{NilFollows, OfferAt, SettlesAt, SettlesOffer, SettlesOfferIn}
+use Rattle.rests.proofs.Laws.Numbers.{listed-one, chosen, some-offers}
 
 -- What follows an output or an input that stands in a model stands there too.
 rest-standing : {s : List ℕ} {at left scope next : ℕ} (p : Prefix) (P : Process) → ProcessAt s at left scope (Process.act p P) next
@@ -61,51 +69,102 @@ same-bound x a = of (a .prefix) refl
 -- An offer of a thread is a process that the thread comes to, and stands in the model.
 offer-standing : {s out m : List ℕ} {at j to k : ℕ} (t : Placed) (before behind : List Acting) (a : Acting) → ThreadAt s out m at j to t
     → offersOf t k ≡ before ++ (a ∷ behind)
-    → (i next : ℕ) × Down (processOf (t .thread)) (t .place) (boundOf (t .thread)) 0 k (offerSite a i)
-    × ProcessAt s (a .place) 64 (length (a .bound)) (Process.act (a .prefix) (a .rest)) next
+    → (i : ℕ) × Down (processOf (t .thread)) (t .place) (boundOf (t .thread)) 0 k (offerSite a i) × OfferAt s a
 offer-standing {k = k} t before behind a h listed =
     let (i, d) = listed-one before a behind listed (offers-down (processOf (t .thread)) (t .place) (boundOf (t .thread)) 0 k) in
     let (next, p) = down-process (offerSite a i) d (h .recorded .standing .process) in
-    (i, next, d, p)
+    (i, d, record { left = 64; next = next; shallow = omega arith; process = p })
+
+-- An offer of a copy is a process that the copy comes to, and stands in the model with it.
+abbrev InCopy : Opened → Acting → Type 0
+InCopy w a = (i n k : ℕ) × Down (w .copied) (w .place + 1) (w .bound) n k (offerSite a i)
+
+copy-offers-down : (but : ℕ) (c : CopyAt) (w : Opened) → Every (InCopy w) (copyOffers but c w)
+unfolding copyOffers
+copy-offers-down but c w =
+    chosen (eqb (c .mode) 0) (from (w .opens) (names (w .copied) (w .bound) (w .opens)))
+    (chosen (eqb (c .mode) 1) (from (w .opens) (c .second)) (from (c .second) (names (w .copied) (w .bound) (c .second))))
+  where
+    from : (n k : ℕ) → Every (InCopy w) (offersBut but (w .copied) (w .place + 1) (w .bound) n k)
+    from n k =
+        some-offers but (w .copied) (w .place + 1) (w .bound) n k
+        (every-map (λ a (i, d). (i, n, k, d)) (offers-down (w .copied) (w .place + 1) (w .bound) n k))
+
+copy-standing : {s out m : List ℕ} {at k to : ℕ} (c : CopyAt) (t : Placed) (pre post : List Opened) (w : Opened) (before behind : List Acting)
+    (a : Acting) → ThreadAt s out m at k to t → copiesOf t k ≡ pre ++ (w ∷ post) → (but : ℕ) → copyOffers but c w ≡ before ++ (a ∷ behind)
+    → OfferAt s a
+copy-standing {k = k} c t pre post w before behind a h copied but listed =
+    let (j, e) = listed-one pre w post copied (copies-down (processOf (t .thread)) (t .place) (boundOf (t .thread)) 0 k) in
+    let (to, y) = down-process (copySite w j) e (h .recorded .standing .process) in
+    let (i, n, o, d) = listed-one before a behind listed (copy-offers-down but c w) in
+    let (next, p) = down-process (offerSite a i) d (of-repl (w .copied) y) in
+    record { left = 63; next = next; shallow = omega arith; process = p }
+
+-- What follows an offer that a way has come to.
+module _ {s label m out after : List ℕ} {way : Way} {now r : Progress} where
+  pub nowhere : length s ≤ way .at → SettlesAt s label way m out now r after
+  nowhere n = record {
+    exact = λ a x g y o i few d.
+        absurd (omega (arith, y .place, process-kind (Process.act (a .prefix) (a .rest)) (o .process) .1));
+  }
+
+  pub arrived-offer : length s ≤ 36864 → SettlesRest s label (way .at) m (way .end) out now r after → SettlesAt s label way m out now r after
+  arrived-offer short f = record {
+    exact = λ a x g y o i few d.
+        let P = Process.act (a .prefix) (a .rest) in
+        let there = stands-there (act (a .bound) (a .prefix) (a .rest)) short (o .shallow) (o .process) (y .prepared .bound .normal) in
+        rw (← same-bound x a) ((rw (y .place) at f) .exact (a .prefix) (a .rest) x (a .bound) g (record {
+          next = there .next;
+          process = there .process;
+          shallow = omega arith;
+          short = short;
+          labelled = i .same;
+          small = i .small;
+          normal = i .normal;
+          bound = y .prepared .bound;
+          room = y .prepared .room;
+          fits = names-small Settle (g .names) P (there .process) short (few also none);
+          meant = tt;
+        }) d);
+  }
+
+pub ruleset arrivals = (nowhere, arrived-offer)
+
+-- If nil follows an offer, nothing is left to settle.
+nil-settled : {s out : List ℕ} {mark : ℕ} {r : Bool} {now : Progress} (a : Acting) (x : Message) (g : Going) → NilFollows s mark r → r ≡ true
+    → OfferAt s a → mark ≡ a .place + 1 → Shows s out now g
+    → ShowsCourse s out now (go (a .rest) Settle x (restAt (a .place) (a .prefix)) (boundAfter x a) g)
+unfolding go
+nil-settled a x g f e o same d = let is-nil = f .exact e (a .prefix) (a .rest) same (o .process) in rw is-nil d
 
 module _ {s label m out : List ℕ} {at k mark : ℕ} {now : Progress} where
   pub nothing-behind : {r : Bool} → NilFollows s mark r → r ≡ true → SettlesOffer s label at k m mark out now now out
-  unfolding go
   nothing-behind f e = record {
     exact = λ t x before behind a g h i later small few listed same d.
-        let (j, next, down, p) = offer-standing t before behind a h listed in
-        let is-nil = f .exact e (a .prefix) (a .rest) same p in
-        rw is-nil d;
+        nil-settled a x g f e (offer-standing t before behind a h listed .2) same d;
   }
 
-  module _ {r : Progress} {m₁ after : List ℕ} {w : Way} (c : Comes s at k m mark out w m₁) where
-    pub nowhere : length s ≤ w .at → SettlesOffer s label at k m mark out now r after
-    nowhere n = record {
+  pub nothing-in : {r : Bool} {c : CopyAt} → NilFollows s mark r → r ≡ true → SettlesOfferIn s label at k m c mark out now now out
+  nothing-in {c = c} f e = record {
+    exact = λ t x pre post w before behind a g h i few copied place again later but listed same d.
+        nil-settled a x g f e (copy-standing c t pre post w before behind a h copied but listed) same d;
+  }
+
+  module _ {r : Progress} {m₁ after : List ℕ} {way : Way} where
+    pub settled-offer : Comes s at k m mark out way m₁ → SettlesAt s label way m₁ out now r after
+        → SettlesOffer s label at k m mark out now r after
+    settled-offer c f = record {
       exact = λ t x before behind a g h i later small few listed same d.
-          let (j, next, down, p) = offer-standing t before behind a h listed in
-          let y = c .exact t (offerSite a j) h later small down same in
-          absurd (omega (arith, y .place, process-kind (Process.act (a .prefix) (a .rest)) p .1));
+          let (j, down, o) = offer-standing t before behind a h listed in
+          f .exact a x g (c .exact t (offerSite a j) h later small down same) o i few d;
     }
 
-    pub settled-offer : SettlesRest s label (w .at) m₁ (w .end) out now r after → SettlesOffer s label at k m mark out now r after
-    settled-offer f = record {
-      exact = λ t x before behind a g h i later small few listed same d.
-          let (j, next, down, p) = offer-standing t before behind a h listed in
-          let y = c .exact t (offerSite a j) h later small down same in
-          let P = Process.act (a .prefix) (a .rest) in
-          rw (← same-bound x a) ((rw (y .place) at f) .exact (a .prefix) (a .rest) x (a .bound) g (record {
-            next = next;
-            process = p;
-            shallow = omega arith;
-            short = h .short;
-            labelled = i .same;
-            small = i .small;
-            normal = i .normal;
-            bound = y .prepared .bound;
-            room = y .prepared .room;
-            fits = names-small Settle (g .names) P p (h .short) (few also none);
-            meant = tt;
-          }) d);
+    pub settled-in : {c : CopyAt} → ComesIn s at k m c mark out way m₁ → SettlesAt s label way m₁ out now r after
+        → SettlesOfferIn s label at k m c mark out now r after
+    settled-in {c = c} y f = record {
+      exact = λ t x pre post w before behind a g h i few copied place again later but listed same d.
+          let (j, reached) = y .exact t pre post w before behind a h copied place again later but listed same in
+          f .exact a x g reached (copy-standing c t pre post w before behind a h copied but listed) i few d;
     }
 
-pub ruleset offers-settled = (nothing-behind, nowhere, settled-offer)
+pub ruleset offers-settled = (nothing-behind, nothing-in, settled-offer, settled-in)

@@ -17,6 +17,7 @@ use Rattle.states.proofs.Laws.Stored.{record-parts}
 use Rattle.forms.specs.Visit.{Labelled}
 use Rattle.walks.specs.Settled.{threadsOf}
 use Rattle.positions.specs.Rebuilt.{nodesOf}
+use Rattle.positions.proofs.Laws.Spread.{more-nodes}
 use Rattle.positions.proofs.Laws.SpreadRoom.{nodes-joined}
 use Rattle.moves.specs.Spot.{recordAt}
 use Rattle.moves.proofs.Laws.Threads.{first-thread, threads-from}
@@ -25,13 +26,12 @@ use Rattle.successors.specs.Alone.{sentNodes, Others, Around}
 use Rattle.successors.specs.Halves.{Halve}
 use Rattle.successors.specs.declared.halves.Halves.{Halves}
 use Rattle.successors.proofs.Laws.Block.{nodes-first}
-use Rattle.successors.proofs.Laws.BareForm.{nodes-more}
 use Rattle.successors.proofs.Laws.Alone.{threads-before}
 
 -- The aliases of the next state have the nodes of the message more that is sent.
 pub appended-sum : (q : Bool) (ρ : Bound) (y : Message) {message : List ℕ} → Labelled message y
     → boundNodes (appended q ρ y) ≡ boundNodes ρ + sentNodes q (length message)
-appended-sum true ρ y l = omega (arith, nodes-more ρ y, runLength y, ap length (l .same))
+appended-sum true ρ y l = omega (arith, more-nodes ρ y, runLength y, ap length (l .same))
 appended-sum false ρ y l = omega arith
 
 pub sent-so : (q : Bool) (size : ℕ) → q ≡ true → size / 2 ≡ sentNodes q size

@@ -1,6 +1,6 @@
 -- The state that a step leads to without its threads: what follows the processes that act is settled by itself, and there is room for it
 -- ("Judging and its count"). Assumes nothing.
-use mathlib.Core.Path.{_≡_, refl, sym, ap, _∙_}
+use mathlib.Core.Path.{_≡_, refl, sym, ap, _∙_, subst}
 use mathlib.Core.Bool.{Bool, true, false, not, true≢false}
 use mathlib.Core.List.{List}
 use Prim.Native.Nat.{ℕ, _+_, _-_, _≤_, _<_}
@@ -9,11 +9,11 @@ use native.Mathlib.Nat.{le-refl}
 use borrow.Author.Tests.{eqb-false}
 use lib.ListN.{length}
 use Rattle.meaning.specs.Messages.Term.{Message}
-use Rattle.meaning.specs.Steps.State.{State, act}
+use Rattle.meaning.specs.Steps.State.{State}
 use Rattle.nodes.specs.Buffer.{Within}
 use Rattle.states.specs.Course.{Going, Course, going, further}
 use Rattle.states.specs.Shown.{Shows, ShowsCourse}
-use Rattle.states.specs.Progress.{Extends, Stopped}
+use Rattle.states.specs.Progress.{Extends}
 use Rattle.states.specs.declared.state.State as code
 use Rattle.states.specs.declared.progress.Progress.{Progress}
 use Rattle.states.proofs.Laws.Progress.{records-twice}
@@ -22,10 +22,13 @@ use Rattle.walks.specs.News.{news}
 use Rattle.walks.proofs.Laws.Course.{go-fits}
 use Rattle.forms.specs.Visit.{nothingYet, Begins, Labelled}
 use Rattle.forms.proofs.Laws.Visit.{begins-shown, behind}
+use Rattle.threads.specs.declared.task.CopyAt.{CopyAt}
 use Rattle.positions.specs.Located.{Acting}
-use Rattle.moves.specs.Spot.{Spot, recordAt}
+use Rattle.positions.specs.Joint.{Pair, Joint}
+use Rattle.moves.specs.Spot.{Spot, recordAt, offersOf}
 use Rattle.moves.specs.Moves.{Move, alone, inside, between}
 use Rattle.moves.specs.Outcome.{sentBy}
+use Rattle.moves.specs.CopyOffers.{takersAt, butOf, jointWith}
 use Rattle.moves.specs.Step.{actor, modeOf, stepOf}
 use Rattle.moves.specs.Held.{Held}
 use Rattle.moves.specs.Moving.{carried, Leading}
@@ -33,14 +36,17 @@ use Rattle.moves.specs.declared.step.Step as step
 use Rattle.moves.specs.declared.step.Actor.{Actor}
 use Rattle.moves.specs.declared.step.Label.{Label}
 use Rattle.moves.specs.declared.step.Label.the-variants.{Output, Input, Silent}
+use Rattle.moves.proofs.Laws.CopyMoves.{mode-of}
+use Rattle.moves.proofs.Laws.MovesSpots.{Stands}
 use Rattle.moves.proofs.Laws.Threads.{thread-kept}
-use Rattle.rests.specs.Settled.{SettlesOffer}
+use Rattle.rests.specs.Rests.{stepCopies}
+use Rattle.rests.specs.Settled.{SettlesOffer, SettlesOfferIn}
 use Rattle.rests.proofs.Laws.Rests.{record-below}
-use Rattle.rests.proofs.Laws.RestsMoves.{Stood}
+use Rattle.rests.proofs.Laws.RestsMoves.{Among, Stood}
 use Rattle.rests.proofs.Laws.RestsThread.{thread-at, later-few, offer-acts}
 use Rattle.rests.proofs.Laws.RestsSettled.{sender-alone, taker-alone, not-silent, step-stood}
 use Rattle.successors.proofs.Laws.RebuiltMove.{some-mode}
-use Rattle.successors.specs.Bare.{restFrom, settledRests, FollowsOffer, Settles, SettlesBoth}
+use Rattle.successors.specs.Bare.{restFrom, settledRests, FollowsOffer, FollowsIn, Settles, SettlesBoth}
 
 -- What follows one offer.
 module _ {s message m out : List ℕ} {st : code.State} {v : Actor} {k : ℕ} {now : Progress} where
@@ -74,6 +80,46 @@ module _ {s message m out : List ℕ} {st : code.State} {v : Actor} {k : ℕ} {n
     }
 
 pub ruleset followings = (follows-not, follows-none, follows-short, follows-offer)
+
+-- What follows a taker in the copies of one thread.
+module _ {s message m out : List ℕ} {st : code.State} {v : step.Step} {now : Progress} where
+  pub inside-not : not (now .going) ≡ true → FollowsIn s st v message m out now now out
+  inside-not off = record {
+    stopped = λ e. (refl, refl);
+    exact = λ p mode w u y g pre post before behind t i listed low later few placed e d. absurd (true≢false (sym off ∙ ap not (d .on)));
+  }
+
+  module _ {r : Progress} (on : not (now .going) ≡ false) where
+    pub inside-none : st .end < 4 → FollowsIn s st v message m out now r out
+    inside-none l = record {
+      stopped = λ off. absurd (true≢false (ap not (sym off) ∙ on));
+      exact = λ p mode w u y g pre post before behind t i listed low later few placed e d. absurd (omega (arith, record-below (p .thread) t));
+    }
+
+    pub inside-short : st .end - 4 < v .taker .at → FollowsIn s st v message m out now r out
+    unfolding stepOf
+    inside-short l = record {
+      stopped = λ off. absurd (true≢false (ap not (sym off) ∙ on));
+      exact = λ p mode w u y g pre post before behind t i listed low later few placed e d.
+          absurd (omega (arith, record-below (p .thread) t, ap (λ (k : step.Step). k .taker .at) e));
+    }
+
+    pub inside-offer : {c : CopyAt} {after : List ℕ} → c ≡ stepCopies v
+        → SettlesOfferIn s message (v .taker .at) (st .names) m c (v .taker .mark) out now r after → FollowsIn s st v message m out now r after
+    unfolding stepOf
+    inside-offer {c} {after} own settles = record {
+      stopped = λ off. absurd (true≢false (ap not (sym off) ∙ on));
+      exact = λ p mode w u y g pre post before behind t i listed low later few placed e d.
+          let at : v .taker .at ≡ recordAt (st .start) p = ap (λ (k : step.Step). k .taker .at) e in
+          let same : c ≡ takersAt mode w (u .sender) =
+          own ∙ ap stepCopies e
+          ∙ ap (λ (i : ℕ). record { place = w .place + 1; mode = i; second = u .sender .next }) (mode-of mode w u low (later .mode)) in
+          let there = subst (λ (i : CopyAt). SettlesOfferIn s message (v .taker .at) (st .names) m i (v .taker .mark) out now r after) same settles in
+          (rw at at there) .exact (p .thread) y pre post w before behind (u .taker) g t i few listed refl low later (butOf mode (u .sender)) placed
+          (ap (λ (k : step.Step). k .taker .mark) e) d;
+    }
+
+pub ruleset followings-in = (inside-not, inside-none, inside-short, inside-offer)
 
 -- What is settled after something else, if that goes on.
 pub then-shown : {s out after : List ℕ} {now r : Progress} (c : Course) (f : Going → Course) → ShowsCourse s out now c
@@ -127,23 +173,41 @@ settles-silent e h = h .exact e
 
 pub ruleset settlings = (settles-output, settles-input, settles-silent)
 
--- Of two threads, or of the copies of one, which are left out.
-module _ {s message m out : List ℕ} {st : code.State} {v : step.Step} {now : Progress} where
-  pub both-copies : {r : Progress} → (v .mode ≡ 0 → ⊥) → Stopped now r → SettlesBoth s st v message m out r out
-  unfolding stepOf settledRests
-  both-copies {r} copied o = record { exact = λ e. record { exact = λ S h x w mv l. of S h x w e (mv .same) (step-stood w mv) } }
-    where
-      of : (S : State) (h : Held s out st S) (x : Message) (w : Move) → v .label ≡ Silent → v ≡ stepOf (st .start) w
-          → Stood (st .names) (h .at .placed) w → ShowsCourse s out r (settledRests (carried x w) w)
-      of S h x (alone p a) e f stood = absurd (not-silent (st .start) p a (sym (ap (λ (w : step.Step). w .label) f) ∙ e))
-      of S h x (inside p j) e f stood = o .over
-      of S h x (between p q u) e f stood = absurd (copied (ap (λ (w : step.Step). w .mode) f))
+-- What follows the sender of a silent step, and the private names after it.
+record Sent (s out : List ℕ) (st : code.State) (r : Progress) (u : Pair) : Type 0 where
+  shown : ShowsCourse s out r (restFrom (sentBy u) (u .sender) (nothingYet (u .taker .next)))
+  few : (g : Going) → restFrom (sentBy u) (u .sender) (nothingYet (u .taker .next)) ≡ going g → g .names ≤ 28664
+  next : u .sender .next ≤ 28664
+  later : st .names ≤ u .sender .next
 
-  pub both-follow : {m₁ out₁ after : List ℕ} {sent r : Progress} {high : ℕ} → v .mode ≡ 0 → Begins (st .end) (v .taker .next) now
-      → FollowsOffer s st (v .sender) (st .names) message m out now sent out₁ → Within 0 high m m₁ → Within (now .state .end) (length out) out out₁
-      → FollowsOffer s st (v .taker) (v .sender .next) message m₁ out₁ sent r after → SettlesBoth s st v message m out r after
+sender-follows : {s message m out out₁ : List ℕ} {st : code.State} {S : State} {a : Actor} {k : ℕ} {now sent : Progress} (h : Held s out st S)
+    → Leading s st S m out → Begins (st .end) k now → FollowsOffer s st a (st .names) message m out now sent out₁ → (p : Spot) (u : Pair)
+    → Stands (h .at .placed) p → Among (offersOf (p .thread) (st .names)) (u .sender) → a ≡ actor (st .start) p (u .sender) → k ≡ u .taker .next
+    → u .taker .next ≤ u .sender .next + 4096 → Labelled message (sentBy u) → Sent s out₁ st sent u
+sender-follows {s} {out = out} {st = st} {now = now} h l begins first p u stands among own next near i =
+    let t = thread-at h l p stands in
+    let acts = offer-acts (p .thread) (u .sender) among in
+    let small = acts .small in
+    let few = later-few (p .thread) t in
+    let y = sentBy u in
+    let n = u .taker .next in
+    let shown = begins-shown {s = s} {out = out} now (rw next at begins) (omega (arith, l .room)) in
+    record {
+      shown = first .exact p (u .sender) y (nothingYet n) (among .before) (among .after) t i (le-refl (st .names)) (omega (arith, t .few))
+          (omega (arith, small, few, t .few)) (among .listed) own shown;
+      few = λ g d. omega (arith, names-behind (u .sender) y n g d, small, few, t .few);
+      next = omega (arith, small, few, t .few);
+      later = acts .later;
+    }
+
+-- Of two threads, or in the copies of one.
+module _ {s message m out m₁ out₁ : List ℕ} {st : code.State} {v : step.Step} {now sent : Progress} {high : ℕ}
+    (begins : Begins (st .end) (v .taker .next) now) (first : FollowsOffer s st (v .sender) (st .names) message m out now sent out₁)
+    (wm : Within 0 high m m₁) (wo : Within (now .state .end) (length out) out out₁) where
+  pub both-follow : {after : List ℕ} {r : Progress} → v .mode ≡ 0 → FollowsOffer s st (v .taker) (v .sender .next) message m₁ out₁ sent r after
+      → SettlesBoth s st v message m out r after
   unfolding stepOf settledRests carried
-  both-follow {m₁} {out₁} {after} {sent} {r} e begins first wm wo second =
+  both-follow {after} {r} e second =
       record { exact = λ silent. record { exact = λ S h x w mv l. of S h x l w silent (mv .same) (step-stood w mv) (mv .labelled) } }
     where
       of : (S : State) (h : Held s out st S) (x : Message) → Leading s st S m out → (w : Move) → v .label ≡ Silent → v ≡ stepOf (st .start) w
@@ -151,27 +215,44 @@ module _ {s message m out : List ℕ} {st : code.State} {v : step.Step} {now : P
       of S h x l (alone p a) silent f stood i = absurd (not-silent (st .start) p a (sym (ap (λ (w : step.Step). w .label) f) ∙ silent))
       of S h x l (inside p j) silent f stood i = absurd (eqb-false (modeOf j) 0 (some-mode j) (sym (ap (λ (w : step.Step). w .mode) f) ∙ e))
       of S h x l (between p q u) silent f sh i =
-          let sender = thread-at h l p (sh .sending) in
-          let taker = thread-at h l q (sh .taking) in
-          let next : v .taker .next ≡ u .taker .next = ap (λ (w : step.Step). w .taker .next) f in
+          let t = thread-at h l q (sh .taking) in
+          let near : u .taker .next ≤ u .sender .next + 4096 =
+          omega (arith, offer-acts (q .thread) (u .taker) (sh .taker) .small, later-few (q .thread) t) in
           let from : v .sender .next ≡ u .sender .next = ap (λ (w : step.Step). w .sender .next) f in
-          let early = offer-acts (p .thread) (u .sender) (sh .sender) .small in
-          let late = offer-acts (q .thread) (u .taker) (sh .taker) .small in
-          let few = later-few (p .thread) sender in
-          let few′ = later-few (q .thread) taker in
+          let sends = sender-follows h l begins first p u (sh .sending) (sh .sender) (ap (λ (w : step.Step). w .sender) f)
+          (ap (λ (w : step.Step). w .taker .next) f) near i in
+          let kept = thread-kept (q .thread) (behind begins wo) wm t in
           let y = sentBy u in
-          let n = u .taker .next in
-          let shown = begins-shown {s = s} {out = out} now (rw next at begins) (omega (arith, l .room)) in
-          let settled = first .exact p (u .sender) y (nothingYet n) (sh .sender .before) (sh .sender .after) sender i (le-refl (st .names))
-          (omega (arith, sender .few)) (omega (arith, early, late, few, few′, sender .few)) (sh .sender .listed) (ap (λ (w : step.Step). w .sender) f) shown in
-          let kept = thread-kept (q .thread) (behind begins wo) wm taker in
-          then-shown (restFrom y (u .sender) (nothingYet n)) (restFrom y (u .taker)) settled (second .stopped)
-          (λ g d c. (rw from at second) .exact q (u .taker) y g (sh .taker .before) (sh .taker .after) kept i
-          (offer-acts (p .thread) (u .sender) (sh .sender) .later) (omega (arith, early, few, sender .few))
-          (omega (arith, names-behind (u .sender) y n g d, early, late, few, few′, sender .few)) (sh .taker .listed)
-          (ap (λ (w : step.Step). w .taker) f) c)
+          then-shown (restFrom y (u .sender) (nothingYet (u .taker .next))) (restFrom y (u .taker)) (sends .shown) (second .stopped)
+          (λ g d c. (rw from at second) .exact q (u .taker) y g (sh .taker .before) (sh .taker .after) kept i (sends .later) (sends .next)
+          (sends .few g d) (sh .taker .listed) (ap (λ (w : step.Step). w .taker) f) c)
 
-pub ruleset boths = (both-copies, both-follow)
+  pub both-inside : {after : List ℕ} {r : Progress} → (v .mode ≡ 0 → ⊥) → FollowsIn s st v message m₁ out₁ sent r after
+      → SettlesBoth s st v message m out r after
+  unfolding stepOf settledRests carried
+  both-inside {after} {r} some second =
+      record { exact = λ silent. record { exact = λ S h x w mv l. of S h x l w silent (mv .same) (step-stood w mv) (mv .labelled) } }
+    where
+      of : (S : State) (h : Held s out st S) (x : Message) → Leading s st S m out → (w : Move) → v .label ≡ Silent → v ≡ stepOf (st .start) w
+          → Stood (st .names) (h .at .placed) w → Labelled message (carried x w) → ShowsCourse s after r (settledRests (carried x w) w)
+      of S h x l (alone p a) silent f stood i = absurd (not-silent (st .start) p a (sym (ap (λ (w : step.Step). w .label) f) ∙ silent))
+      of S h x l (between p q u) silent f stood i = absurd (some (ap (λ (w : step.Step). w .mode) f))
+      of S h x l (inside p j) silent f jo i =
+          let u = j .pair in
+          let t = thread-at h l p (jo .stands) in
+          let near : u .taker .next ≤ u .sender .next + 4096 = omega (arith, jo .small .small, jo .few, later-few (p .thread) t) in
+          let sends = sender-follows h l begins first p u (jo .stands) (jo .sender) (ap (λ (w : step.Step). w .sender) f)
+          (ap (λ (w : step.Step). w .taker .next) f) near i in
+          let own : v ≡ stepOf (st .start) (inside p (jointWith (jo .mode) (jo .copy) u)) =
+          f ∙ ap (λ (k : Joint). stepOf (st .start) (inside p k)) (jo .same) in
+          let kept = thread-kept (p .thread) (behind begins wo) wm t in
+          let y = sentBy u in
+          then-shown (restFrom y (u .sender) (nothingYet (u .taker .next))) (restFrom y (u .taker)) (sends .shown) (second .stopped)
+          (λ g d c. second .exact p (jo .mode) (jo .copy) u y g (jo .listed .before) (jo .listed .after) (jo .taker .before) (jo .taker .after) kept i
+          (jo .listed .listed) (jo .low) (record { mode = jo .high; after = λ o. jo .later; small = sends .next }) (sends .few g d)
+          (jo .taker .listed) own c)
+
+pub ruleset boths = (both-follow, both-inside)
 
 -- Both are settled behind the state.
 pub both-behind : {out mid after : List ℕ} {to n high high₁ : ℕ} {now sent : Progress} → Begins to n now → Within (now .state .end) high out mid

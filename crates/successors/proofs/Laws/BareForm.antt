@@ -2,15 +2,14 @@
 -- count"). Assumes nothing.
 use mathlib.Core.Path.{_≡_, refl, sym, ap, _∙_}
 use mathlib.Core.Bool.{Bool, true, false, not, true≢false}
-use mathlib.Core.List.{List, [], _∷_, _++_}
+use mathlib.Core.List.{List, [], _++_}
 use Prim.Native.Nat.{ℕ, _+_, _-_, _≤_}
 use native.Mathlib.Omega.{arith}
-use native.Mathlib.Nat.{le-refl}
 use borrow.Author.Tests.{le-ltb}
 use lib.ListN.{length}
 use Rattle.meaning.specs.Messages.Term.{Message, nodes}
 use Rattle.meaning.specs.Places.{none}
-use Rattle.meaning.specs.Steps.State.{Bound, _▸_, State}
+use Rattle.meaning.specs.Steps.State.{Bound, State}
 use Rattle.meaning.specs.Judging.Limits.{boundNodes, threadNodes}
 use Rattle.meaning.proofs.Every.{every-split}
 use Rattle.nodes.specs.Buffer.{Within}
@@ -25,17 +24,15 @@ use Rattle.forms.specs.declared.form.Formed.{Formed}
 use Rattle.forms.specs.declared.form.Formed.the-variants.{At, OverLimit}
 use Rattle.positions.specs.Rebuilt.{nodesOf}
 use Rattle.positions.proofs.Laws.Copies.{split-at}
-use Rattle.moves.specs.Spot.{Spot}
-use Rattle.moves.specs.Moves.{Move, alone, inside, between}
+use Rattle.positions.proofs.Laws.Spread.{more-nodes}
+use Rattle.moves.specs.Moves.{Move}
 use Rattle.moves.specs.Outcome.{outcome, arrivalOf}
-use Rattle.moves.specs.Threads.{Judged}
 use Rattle.moves.specs.Step.{stepOf}
 use Rattle.moves.specs.Held.{Held}
 use Rattle.moves.specs.Moving.{carried, Leading, Moving}
 use Rattle.moves.specs.declared.step.Step as step
-use Rattle.moves.proofs.Laws.Limits.{limitsJudged}
-use Rattle.moves.proofs.Laws.MovesSpots.{Stands}
-use Rattle.rests.proofs.Laws.RestsMoves.{Stood, moves-stood}
+use Rattle.moves.proofs.Laws.Limits.{limitsJudged, opensOn}
+use Rattle.rests.proofs.Laws.RestsMoves.{moves-stood}
 use Rattle.alias_lists.specs.Aliases.{appended, Begun, Carries}
 use Rattle.successors.specs.Tasks.{sends}
 use Rattle.successors.specs.Bare.{bareOf, settledRests, Settles, Bounds, Fits, FormsBare}
@@ -43,7 +40,7 @@ use Rattle.successors.specs.Excess.{Adds}
 use Rattle.successors.specs.declared.excess.Excess.{Excess}
 use Rattle.successors.proofs.Laws.Lead.{every-move, aliases-after}
 use Rattle.successors.proofs.Laws.Leads.{held-kept}
-use Rattle.successors.proofs.Laws.LightMove.{Light, opens-at, light-alone, light-between}
+use Rattle.successors.proofs.Laws.LightMove.{LightIn, light-move}
 
 -- Numbers within a limit, or not known to be.
 module _ {limit a b c d : ℕ} where
@@ -79,37 +76,21 @@ on-going (going g) d on = (g, refl, d)
 on-going over-limit d on = absurd (true≢false (sym on ∙ d .off))
 on-going (found x n ms) d on = absurd (true≢false (sym on ∙ d .off))
 
--- One message more has its nodes more.
-pub nodes-more : (ρ : Bound) (y : Message) → boundNodes (ρ ▸ y) ≡ boundNodes ρ + nodes y
-unfolding boundNodes
-nodes-more [] y = omega arith
-nodes-more (m ∷ ρ) y = omega (arith, nodes-more ρ y)
-
+-- A message more has its nodes more at most.
 appended-nodes : (b : Bool) (ρ : Bound) (y : Message) → boundNodes (appended b ρ y) ≤ boundNodes ρ + nodes y
-appended-nodes true ρ y = omega (arith, nodes-more ρ y)
+appended-nodes true ρ y = omega (arith, more-nodes ρ y)
 appended-nodes false ρ y = omega arith
 
 module _ {s out : List ℕ} {st : code.State} {v : step.Step} {message : List ℕ} (S : State) (h : Held s out st S) (x : Message) (w : Move)
     (moving : Moving s out st S h v x w message) where
-  judged-at : (p : Spot) → Stands (h .at .placed) p → Judged (S .next) (p .thread)
-  judged-at p stands = every-split (split-at (p .before) (stands .parts)) (h .judged) .1
-
   -- What follows the processes of the step, as it was settled.
-  settled-light : (g : Going) → settledRests (carried x w) w ≡ going g → Light (h .at .placed) (S .next) x w g
-  unfolding settledRests
+  settled-light : (g : Going) → settledRests (carried x w) w ≡ going g → LightIn (h .at .placed) (S .next) x w g
   settled-light g e =
-      of w (every-split (split-at (moving .earlier) (moving .listed)) (moves-stood _ (h .at .placed) (v .label) (moving .channel)) .1) g e
-    where
-      of : (u : Move) → Stood (S .next) (h .at .placed) u → (g : Going) → settledRests (carried x u) u ≡ going g
-          → Light (h .at .placed) (S .next) x u g
-      of (alone p a) (stands, among) g e =
-          light-alone (h .at .placed) (S .next) x (moving .stored) p a
-          (opens-at (S .next) (p .thread) a (le-refl (S .next)) (judged-at p stands) among) g e
-      of (inside p j) stood g e = absurd (let z : _≡_ {A = ℕ} 0 1 = cc in omega arith)
-      of (between p q u) sh g e =
-          let sender = opens-at (S .next) (p .thread) (u .sender) (le-refl (S .next)) (judged-at p (sh .sending)) (sh .sender) in
-          let taker = opens-at (u .sender .next) (q .thread) (u .taker) (sender .later) (judged-at q (sh .taking)) (sh .taker) in
-          light-between (h .at .placed) (S .next) x p q u sender taker (sh .sends) (sh .takes) g e
+      let ps = h .at .placed in
+      let opens = every-move (S .next) ps (opensOn ps (S .next) x (h .judged) (moving .stored)) (v .label) (moving .channel)
+      (moving .earlier) (moving .others) w (moving .listed) in
+      let stood = every-split (split-at (moving .earlier) (moving .listed)) (moves-stood _ ps (v .label) (moving .channel)) .1 in
+      light-move ps (S .next) x (moving .stored) w opens stood g e
 
   aliases-weigh : boundNodes (S .aliases ++ outcome (h .at .placed) (S .next) x w .alias) ≤ boundNodes (S .aliases) + length message
   aliases-weigh =

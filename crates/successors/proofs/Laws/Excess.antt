@@ -1,5 +1,5 @@
 -- What the copies that a step opens add at most ("Steps"; "Judging and its count"). Assumes nothing.
-use mathlib.Core.Path.{_≡_, refl, sym, ap, _∙_}
+use mathlib.Core.Path.{_≡_, refl, sym, ap, _∙_, subst}
 use mathlib.Core.Bool.{Bool, true}
 use mathlib.Core.List.{List, [], _∷_, _++_}
 use Prim.Native.Nat.{ℕ, zero, suc, _+_, _-_, _*_, _/_, _≤_, _<_}
@@ -11,6 +11,7 @@ use lib.ListN.{length, length-append}
 use Rattle.meaning.specs.Messages.Term.{Message}
 use Rattle.meaning.specs.Steps.State.{Thread, act, repl, State}
 use Rattle.meaning.specs.Judging.Limits.{boundNodes}
+use Rattle.meaning.proofs.Every.{every-split}
 use Rattle.nodes.specs.Encoding.{numberAt}
 use Rattle.terms.proofs.Theorems.{boundLength}
 use Rattle.states.specs.Record.{Placed, processOf, boundOf}
@@ -18,13 +19,18 @@ use Rattle.states.specs.declared.state.State as code
 use Rattle.states.proofs.Laws.Process.{kindOf, in-model, process-kind}
 use Rattle.states.proofs.Laws.Stored.{record-parts}
 use Rattle.positions.specs.Located.{Acting, acting}
-use Rattle.positions.specs.Rebuilt.{nodesOf}
-use Rattle.positions.proofs.Laws.SpreadRoom.{nodes-none, nodes-joined, few-replaced, light-replaced}
-use Rattle.moves.specs.Spot.{Spot, recordAt, offersOf}
+use Rattle.positions.specs.Joint.{Joint}
+use Rattle.positions.specs.Sought.{Opened, copies}
+use Rattle.positions.specs.Rebuilt.{nodesOf, leftAt}
+use Rattle.positions.specs.Rebuilt as rebuilt
+use Rattle.positions.proofs.Laws.Copies.{split-at}
+use Rattle.positions.proofs.Laws.SpreadCopies.{copies-spread}
+use Rattle.positions.proofs.Laws.SpreadRoom.{most, nodes-none, nodes-joined, few-replaced, light-replaced, few-inside, light-inside}
+use Rattle.moves.specs.Spot.{Spot, recordAt, offersOf, copiesOf}
 use Rattle.moves.specs.Moves.{Move, alone, inside, between}
 use Rattle.moves.specs.Outcome.{replacedIn, senderRest, takerRest, outcome}
 use Rattle.moves.specs.Step.{actor, modeOf, stepOf}
-use Rattle.moves.specs.CopyOffers.{ThreadAt}
+use Rattle.moves.specs.CopyOffers.{ThreadAt, jointWith}
 use Rattle.moves.specs.Held.{Held}
 use Rattle.moves.specs.Moving.{Leading}
 use Rattle.moves.specs.declared.step.Step as step
@@ -37,7 +43,7 @@ use Rattle.rests.proofs.Laws.RestsSettled.{sender-alone, taker-alone, not-silen
 use Rattle.successors.specs.Alone.{Acts}
 use Rattle.indexes.specs.Entry.{spread}
 use Rattle.indexes.specs.Index.{Spreads}
-use Rattle.successors.specs.Excess.{restsIn, Left, Copies, Opens, Sums, Adds}
+use Rattle.successors.specs.Excess.{restsIn, Left, thrice, Copies, Opens, Sums, Adds}
 use Rattle.successors.specs.declared.excess.Excess.{Excess}
 use Rattle.successors.proofs.Laws.RebuiltMove.{some-mode}
 use Rattle.successors.proofs.Laws.Own.{only-one, own-place}
@@ -62,11 +68,14 @@ copies-so {spread} {size} f e = record {
 -- One thread.
 module _ {s out : List ℕ} {to at : ℕ} {e : Excess} where
   pub opens-not : 32 < e .threads → Opens s to at out e
-  opens-not l = record { exact = λ few. absurd (omega arith) }
+  opens-not l = record { exact = λ few. absurd (omega arith); joint = λ few. absurd (omega arith) }
 
   pub opens-itself : {b : Bool} → Acts s at out b → b ≡ true → Opens s to at out e
-  unfolding acting
-  opens-itself acts so = record { exact = λ few t h i j a before after listed z. of t i j h a before after listed z }
+  unfolding acting copies
+  opens-itself acts so = record {
+    exact = λ few t h i j a before after listed z. of t i j h a before after listed z;
+    joint = λ few t h i j mode c u before after listed y z. absurd (no-copies t i h c before after listed);
+  }
     where
       of : (t : Placed) (i j : ℕ) {m : List ℕ} {k : ℕ} → ThreadAt s out m at k to t → (a : Acting) (before after : List Acting)
           → offersOf t i ≡ before ++ (a ∷ after) → (z : List Placed) → Left [] z (replacedIn t (a .place) j z) e
@@ -83,25 +92,54 @@ module _ {s out : List ℕ} {to at : ℕ} {e : Excess} where
               absurd (acts .exact so t (h .recorded .stands)
               (process-kind (processOf (t .thread)) (h .recorded .standing .process) .0 ∙ ap (λ u. kindOf (processOf u)) f))
 
+      no-copies : (t : Placed) (i : ℕ) {m : List ℕ} {k : ℕ} → ThreadAt s out m at k to t → (c : Opened) (before after : List Opened)
+          → copiesOf t i ≡ before ++ (c ∷ after) → ⊥
+      no-copies t i h c before after listed = by-thread (t .thread) refl
+        where
+          by-thread : (u : Thread) → t .thread ≡ u → ⊥
+          by-thread (act ρ q P) f =
+              let none : [] ≡ before ++ (c ∷ after) = rw f at listed in
+              omega (arith, ap length none, length-append before (c ∷ after))
+          by-thread (repl ρ P) f =
+              acts .exact so t (h .recorded .stands)
+              (process-kind (processOf (t .thread)) (h .recorded .standing .process) .0 ∙ ap (λ u. kindOf (processOf u)) f)
+
   pub opens-copies : {place size n : ℕ} → place ≡ numberAt out at → size ≡ numberAt out (at + 2) → Spreads s place n → Copies n size e
       → Opens s to at out e
   opens-copies {place} {size} {n} p z f c = record {
     exact = λ few t h i j a before after listed y.
         let P = processOf (t .thread) in
         let ρ = boundOf (t .thread) in
-        let (own, bytes, bound) = record-parts t (h .recorded .stands) in
-        let is : n ≡ spread P = (rw (p ∙ own) at f) .same P (in-model (h .recorded .standing .process)) in
-        let small : spread P ≤ 32 = omega (arith, is, c .threads) in
-        let nodes = c .nodes (boundNodes ρ) (omega (arith, z, bytes, boundLength ρ)) in
+        let (small, threads, nodes) = spread-of few t h in
         record {
-          few = omega (arith, few-replaced (a .place) y P (t .place) ρ 0 j small, is, c .threads);
-          light = omega (arith, light-replaced (a .place) y P (t .place) ρ 0 j small, rw is at nodes);
+          few = omega (arith, few-replaced (a .place) y P (t .place) ρ 0 j small, threads);
+          light = omega (arith, light-replaced (a .place) y P (t .place) ρ 0 j small, nodes);
+        };
+    joint = λ few t h i j mode o u before after listed y x.
+        let P = processOf (t .thread) in
+        let ρ = boundOf (t .thread) in
+        let (small, threads, nodes) = spread-of few t h in
+        let copied = every-split (split-at before listed) (copies-spread P (t .place) ρ 0 i small) .1 in
+        let w = jointWith mode o u in
+        record {
+          few = omega (arith, few-inside w y x P (t .place) ρ 0 j small copied, threads, length-append y x);
+          light = omega (arith, light-inside w y x P (t .place) ρ 0 j small copied, nodes, nodes-joined y x);
         };
   }
+    where
+      spread-of : e .threads ≤ 32 → (t : Placed) {m : List ℕ} {k : ℕ} → ThreadAt s out m at k to t
+          → let P = processOf (t .thread) in (spread P ≤ 32) × (spread P ≡ e .threads) × (spread P * most P (boundOf (t .thread)) ≤ e .nodes)
+      spread-of few t h =
+          let P = processOf (t .thread) in
+          let ρ = boundOf (t .thread) in
+          let (own, bytes, bound) = record-parts t (h .recorded .stands) in
+          let is : n ≡ spread P = (rw (p ∙ own) at f) .same P (in-model (h .recorded .standing .process)) in
+          let nodes = c .nodes (boundNodes ρ) (omega (arith, z, bytes, boundLength ρ)) in
+          (omega (arith, is, c .threads), omega (arith, is, c .threads), rw is at nodes)
 
 pub ruleset openings = (opens-not, opens-itself, opens-copies)
 
--- Two threads together.
+-- Two of these together.
 module _ {d e r : Excess} where
   pub sums-not : 32 < r .threads → Sums d e r
   sums-not l = record {
@@ -201,4 +239,48 @@ module _ {s out : List ℕ} {st : code.State} {v : step.Step} {e : Excess} where
                 );
           }
 
-pub ruleset additions = (adds-not, adds-output, adds-input, adds-both)
+  -- In the copies of one thread.
+  pub adds-inside : {c d : Excess} → v .label ≡ Silent → (v .mode ≡ 0 → ⊥) → Opens s (st .end) (v .sender .at) out c → Sums c c d → Sums c d e
+      → Adds s st v out e
+  unfolding stepOf outcome restsIn
+  adds-inside {c} {d} silent some opens two three = record { exact = λ few S h x w mv l. of few S h x l w (mv .same) (step-stood w mv) }
+    where
+      of : e .threads ≤ 32 → (S : State) (h : Held s out st S) (x : Message) {m : List ℕ} → Leading s st S m out → (w : Move)
+          → v ≡ stepOf (st .start) w → Stood (st .names) (h .at .placed) w
+          → Left (h .at .placed) (restsIn x w) (outcome (h .at .placed) (S .next) x w .threads) e
+      of few S h x l (alone p a) g stood = absurd (not-silent (st .start) p a (sym (ap (λ (w : step.Step). w .label) g) ∙ silent))
+      of few S h x l (between p q u) g stood = absurd (some (ap (λ (w : step.Step). w .mode) g))
+      of few S h x l (inside p j) g jo =
+          let ps = h .at .placed in
+          let u = j .pair in
+          let from : v .sender .at ≡ recordAt (st .start) p = ap (λ (w : step.Step). w .sender .at) g in
+          let z = senderRest u in
+          let y = takerRest u in
+          let put = replacedIn (p .thread) (j .place) (S .next) (leftAt j z y ++ rebuilt.alone (j .place) (repl (j .bound) (j .copied))) in
+          let left = (rw from at opens) .joint (three .first few) (p .thread) (thread-at h l p (jo .stands)) (st .names) (S .next) (jo .mode)
+          (jo .copy) u (jo .listed .before) (jo .listed .after) (jo .listed .listed) z y in
+          let own : Left [] (z ++ y) put (thrice c) =
+          subst (λ (w : Joint). Left [] (z ++ y) (replacedIn (p .thread) (w .place) (S .next)
+          (leftAt w z y ++ rebuilt.alone (w .place) (repl (w .bound) (w .copied)))) (thrice c)) (sym (jo .same)) left in
+          let few₂ = three .second few in
+          record {
+            few =
+                omega (
+                  arith,
+                  one-weighs length refl length-append ps p put (jo .stands),
+                  own .few,
+                  three .threads few,
+                  two .threads few₂,
+                );
+            light =
+                omega (
+                  arith,
+                  one-weighs nodesOf nodes-none nodes-joined ps p put (jo .stands),
+                  own .light,
+                  three .nodes few,
+                  two .nodes few₂,
+                  nodes-none,
+                );
+          }
+
+pub ruleset additions = (adds-not, adds-output, adds-input, adds-both, adds-inside)

@@ -1,9 +1,9 @@
 -- What follows the processes that act in a step, settled by itself: it meets no limit of its own, and has the threads and the nodes of what the
 -- step leaves there ("Judging and its count"). Assumes nothing.
 use mathlib.Core.Path.{_≡_, refl, sym, ap, subst, _∙_}
-use mathlib.Core.Bool.{false}
-use mathlib.Core.List.{List}
-use Prim.Native.Nat.{ℕ, _+_, _≤_}
+use mathlib.Core.Bool.{Bool, false}
+use mathlib.Core.List.{List, _++_}
+use Prim.Native.Nat.{ℕ, _+_}
 use native.Mathlib.Omega.{arith}
 use lib.ListN.{length, length-append}
 use Rattle.meaning.specs.Messages.Term.{Message}
@@ -11,9 +11,8 @@ use Rattle.meaning.specs.Bytes.Process.{Process}
 use Rattle.meaning.specs.Steps.State.{Bound, _▸_, names}
 use Rattle.meaning.specs.Steps.Invariant.{Stored, BoundStored}
 use Rattle.meaning.specs.Judging.Limits.{threadNodes}
-use Rattle.meaning.proofs.Every.{every-map, every-split}
 use Rattle.meaning.proofs.Steps.Invariant.Settling.{bound-later, worked-below, settled-below}
-use Rattle.states.specs.Record.{Placed, processOf, boundOf}
+use Rattle.states.specs.Record.{Placed}
 use Rattle.states.specs.Place.{restAt}
 use Rattle.states.specs.Course.{Going, Course, going, over-limit, found, further}
 use Rattle.threads.specs.declared.task.Task.the-variants.{Settle}
@@ -25,30 +24,20 @@ use Rattle.positions.specs.Located.{Acting}
 use Rattle.positions.specs.Joint.{Pair, messageOf}
 use Rattle.positions.specs.Rebuilt.{nodesOf}
 use Rattle.positions.proofs.Laws.SpreadRoom.{nodes-joined}
-use Rattle.positions.proofs.Laws.Copies.{split-at}
-use Rattle.moves.specs.Spot.{Spot, offersOf}
-use Rattle.moves.specs.Moves.{Move, alone, between}
+use Rattle.moves.specs.Spot.{Spot}
+use Rattle.moves.specs.Moves.{Move, alone, inside, between}
 use Rattle.moves.specs.Outcome.{outcome, boundAfter, sentBy, lastOf, senderRest, takerRest}
-use Rattle.moves.specs.Limits.{restOver}
-use Rattle.moves.specs.Threads.{Judged}
+use Rattle.moves.specs.Limits.{pairOver, restOver}
 use Rattle.moves.specs.Moving.{carried}
-use Rattle.moves.proofs.Laws.LimitsLeft.{clear-later}
+use Rattle.moves.proofs.Laws.Limits.{OpensTo}
 use Rattle.moves.proofs.Laws.LimitsOutcome.{bound-after}
-use Rattle.moves.proofs.Laws.LimitsReplaced.{Opens, replaces}
-use Rattle.moves.proofs.Laws.LimitsPairs.{PairOpens, pair-opens}
-use Rattle.moves.proofs.Laws.Opened.{judged-clear}
-use Rattle.rests.proofs.Laws.RestsMoves.{Among, Sends, Takes}
+use Rattle.moves.proofs.Laws.LimitsReplaced.{Opens}
+use Rattle.moves.proofs.Laws.LimitsPairs.{PairOpens}
+use Rattle.rests.proofs.Laws.RestsMoves.{Sends, Takes, Stood}
 use Rattle.rests.proofs.Laws.RestsSettled.{bound-carried}
-use Rattle.successors.specs.Bare.{restFrom, settledRests}
+use Rattle.successors.specs.Bare.{restFrom, bothFrom, settledRests}
 use Rattle.successors.specs.Excess.{restsIn}
 use Rattle.successors.proofs.Laws.Light.{settled}
-
--- The messages of an offer of a thread that was judged.
-pub opens-at : {k : ℕ} (m : ℕ) (t : Placed) (a : Acting) → k ≤ m → Judged k t → Among (offersOf t m) a → Opens m a
-opens-at m t a le j among =
-    let clear = every-map (λ u c. clear-later le u c) (judged-clear t 0 j) in
-    let all = replaces (processOf (t .thread)) (t .place) (boundOf (t .thread)) 0 m clear in
-    every-split (split-at (among .before) (among .listed)) all .1 .opens
 
 -- A walk that goes on in the end went on before.
 further-going : (c : Course) (f : Going → Course) (g : Going) → further c f ≡ going g → (h : Going) × (c ≡ going h) × (f h ≡ going g)
@@ -67,17 +56,63 @@ grows P at σ g h e = record {
   light = ap (λ r. r .nodes) e ∙ ap (λ ts. g .nodes + threadNodes ts) (sym (settled-threads P at σ (g .names)));
 }
 
-module _ (ps : List Placed) (k : ℕ) (x : Message) where
-  -- What follows meets no limit of its own, and is what the step leaves there.
-  pub record Light (w : Move) (g : Going) : Type 0 where
-    pub free : restOver x w ≡ false
-    pub next : outcome ps k x w .next ≡ g .names
-    pub few : length (g .threads) ≡ length (restsIn x w)
-    pub light : g .nodes ≡ nodesOf (restsIn x w)
+-- What follows meets no limit of its own, and is what a step leaves there.
+pub record Light (over : Bool) (names : ℕ) (rests : List Placed) (g : Going) : Type 0 where
+  pub free : over ≡ false
+  pub next : names ≡ g .names
+  pub few : length (g .threads) ≡ length rests
+  pub light : g .nodes ≡ nodesOf rests
 
-  -- An output or an input.
-  pub light-alone : Stored k x → (p : Spot) (a : Acting) → Opens k a → (g : Going) → settledRests (carried x (alone p a)) (alone p a) ≡ going g
-      → Light (alone p a) g
+abbrev pub LightIn : List Placed → ℕ → Message → Move → Going → Type 0
+LightIn ps k x w g = Light (restOver x w) (outcome ps k x w .next) (restsIn x w) g
+
+-- A sender and a taker.
+abbrev LightPair : Pair → Going → Type 0
+LightPair w g = Light (pairOver w) (names (w .taker .rest) (w .taker .bound ▸ sentBy w) (lastOf w)) (senderRest w ++ takerRest w) g
+
+by-pair : {k : ℕ} (w : Pair) → PairOpens k w → (mid g : Going)
+    → go (w .sender .rest) Settle (sentBy w) (restAt (w .sender .place) (w .sender .prefix)) (w .sender .bound)
+    (nothingYet (w .taker .next)) ≡ going mid
+    → go (w .taker .rest) Settle (sentBy w) (restAt (w .taker .place) (w .taker .prefix)) (w .taker .bound ▸ sentBy w) mid ≡ going g
+    → LightPair w g
+by-pair w o mid g first second =
+    let P = w .sender .rest in
+    let Q = w .taker .rest in
+    let ρ = w .sender .bound in
+    let y = sentBy w in
+    let n = nothingYet (w .taker .next) in
+    let at = restAt (w .sender .place) (w .sender .prefix) in
+    let to = restAt (w .taker .place) (w .taker .prefix) in
+    let (free, is) = settled P y at ρ n mid (o .sender) (omega arith) (omega arith) first in
+    let (few, light) = settled-within P y at ρ n mid first (omega arith) (omega arith) in
+    let (later, threads) = settled-below P (o .sender) in
+    let names-are : mid .names ≡ lastOf w = ap (λ r. r .names) is in
+    let stored : BoundStored (mid .names) (w .taker .bound ▸ y) =
+    subst (λ (i : ℕ). BoundStored i (w .taker .bound ▸ y)) (sym names-are)
+    (worked-below (bound-later later (o .sender)) (messageOf (w .sender .prefix)) (bound-later later (o .taker))) in
+    let (free′, is′) = settled Q y to (w .taker .bound ▸ y) mid g stored few light second in
+    let more = grows P at ρ n mid is in
+    let more′ = rw names-are at (grows Q to (w .taker .bound ▸ y) mid g is′) in
+    record {
+      free = rw (free, (rw names-are at free′));
+      next = sym (ap (λ r. r .names) is′ ∙ ap (names Q (w .taker .bound ▸ y)) names-are);
+      few = omega (arith, more .few, more′ .few, length-append (senderRest w) (takerRest w));
+      light = omega (arith, more .light, more′ .light, nodes-joined (senderRest w) (takerRest w));
+    }
+
+pair-light : {k : ℕ} (w : Pair) → PairOpens k w → Sends (w .sender) → Takes (w .taker) → (g : Going) → bothFrom (sentBy w) w ≡ going g → LightPair w g
+pair-light w o sends takes g e =
+    let y = sentBy w in
+    let (mid, sent, taken) = further-going (restFrom y (w .sender) (nothingYet (w .taker .next))) (restFrom y (w .taker)) g e in
+    by-pair w o mid g
+    (subst (λ (τ : Bound). go (w .sender .rest) Settle y (restAt (w .sender .place) (w .sender .prefix)) τ (nothingYet (w .taker .next)) ≡ going mid)
+    (sends .bound y) sent)
+    (subst (λ (τ : Bound). go (w .taker .rest) Settle y (restAt (w .taker .place) (w .taker .prefix)) τ mid ≡ going g) (takes .bound y) taken)
+
+-- A step: an output or an input, or a silent one by its pair.
+module _ (ps : List Placed) (k : ℕ) (x : Message) where
+  light-alone : Stored k x → (p : Spot) (a : Acting) → Opens k a → (g : Going) → settledRests (carried x (alone p a)) (alone p a) ≡ going g
+      → LightIn ps k x (alone p a) g
   unfolding settledRests outcome restOver restsIn
   light-alone stored p a o g e =
       let y = carried x (alone p a) in
@@ -90,44 +125,8 @@ module _ (ps : List Placed) (k : ℕ) (x : Message) where
       let more = grows (a .rest) here σ n g is in
       record { free = free; next = sym (ap (λ r. r .names) is); few = omega (arith, more .few); light = omega (arith, more .light) }
 
-  -- A silent step of two threads.
-  by-pair : (p q : Spot) (w : Pair) → PairOpens k w → (mid g : Going)
-      → go (w .sender .rest) Settle (sentBy w) (restAt (w .sender .place) (w .sender .prefix)) (w .sender .bound) (nothingYet (w .taker .next)) ≡ going mid
-      → go (w .taker .rest) Settle (sentBy w) (restAt (w .taker .place) (w .taker .prefix)) (w .taker .bound ▸ sentBy w) mid ≡ going g
-      → Light (between p q w) g
-  unfolding outcome restOver restsIn
-  by-pair p q w o mid g first second =
-      let P = w .sender .rest in
-      let Q = w .taker .rest in
-      let ρ = w .sender .bound in
-      let y = sentBy w in
-      let n = nothingYet (w .taker .next) in
-      let at = restAt (w .sender .place) (w .sender .prefix) in
-      let to = restAt (w .taker .place) (w .taker .prefix) in
-      let (free, is) = settled P y at ρ n mid (o .sender) (omega arith) (omega arith) first in
-      let (few, light) = settled-within P y at ρ n mid first (omega arith) (omega arith) in
-      let (later, threads) = settled-below P (o .sender) in
-      let names-are : mid .names ≡ lastOf w = ap (λ r. r .names) is in
-      let stored : BoundStored (mid .names) (w .taker .bound ▸ y) =
-      subst (λ (i : ℕ). BoundStored i (w .taker .bound ▸ y)) (sym names-are)
-      (worked-below (bound-later later (o .sender)) (messageOf (w .sender .prefix)) (bound-later later (o .taker))) in
-      let (free′, is′) = settled Q y to (w .taker .bound ▸ y) mid g stored few light second in
-      let more = grows P at ρ n mid is in
-      let more′ = rw names-are at (grows Q to (w .taker .bound ▸ y) mid g is′) in
-      record {
-        free = rw (free, (rw names-are at free′));
-        next = sym (ap (λ r. r .names) is′ ∙ ap (names Q (w .taker .bound ▸ y)) names-are);
-        few = omega (arith, more .few, more′ .few, length-append (senderRest w) (takerRest w));
-        light = omega (arith, more .light, more′ .light, nodes-joined (senderRest w) (takerRest w));
-      }
-
-  pub light-between : (p q : Spot) (w : Pair) → Opens k (w .sender) → Opens (w .sender .next) (w .taker) → Sends (w .sender) → Takes (w .taker)
-      → (g : Going) → settledRests (carried x (between p q w)) (between p q w) ≡ going g → Light (between p q w) g
-  unfolding settledRests carried
-  light-between p q w o r sends takes g e =
-      let y = sentBy w in
-      let (mid, sent, taken) = further-going (restFrom y (w .sender) (nothingYet (w .taker .next))) (restFrom y (w .taker)) g e in
-      by-pair p q w (pair-opens (w .sender) (w .taker) o r) mid g
-      (subst (λ (τ : Bound). go (w .sender .rest) Settle y (restAt (w .sender .place) (w .sender .prefix)) τ (nothingYet (w .taker .next)) ≡ going mid)
-      (sends .bound y) sent)
-      (subst (λ (τ : Bound). go (w .taker .rest) Settle y (restAt (w .taker .place) (w .taker .prefix)) τ mid ≡ going g) (takes .bound y) taken)
+  pub light-move : Stored k x → (w : Move) → OpensTo k w → Stood k ps w → (g : Going) → settledRests (carried x w) w ≡ going g → LightIn ps k x w g
+  unfolding settledRests outcome restOver restsIn carried
+  light-move stored (alone p a) o stood g e = light-alone stored p a o g e
+  light-move stored (inside p j) o jo g e = pair-light (j .pair) o (jo .sends) (jo .takes) g e
+  light-move stored (between p q w) o sh g e = pair-light w o (sh .sends) (sh .takes) g e

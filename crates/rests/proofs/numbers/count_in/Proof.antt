@@ -8,6 +8,5 @@ pub count-in-spec : {M : Type 1} → statement M
 count-in-spec = tie.close (tie.spec
     (λ c κs. search needs)
     (λ c κs. search needs)
-    (λ c κs. search needs)
     (λ c. search needs)
     (λ c. (search (needs, frames), search (needs, copy-counted))))

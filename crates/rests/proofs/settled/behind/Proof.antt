@@ -15,8 +15,4 @@ behind-spec = tie.close (tie.spec
     (λ c κs. search needs)
     (λ c. search needs)
     (λ c. search needs)
-    (λ c. (search (needs, extensions), (search (needs, frames), (search (needs, unchanged), search (needs, offers-settled)))))
-    (λ c κs. search needs)
-    (λ c. search needs)
-    (λ c. search needs)
     (λ c. (search needs, (search (needs, frames), (search needs, search (needs, offers-settled))))))

@@ -1,6 +1,5 @@
 -- `successors::bare::settle_both` meets its contract. Assumes nothing.
 use borrow.Author.Needs.{needs}
-use Rattle.nodes.proofs.Laws.Buffer.{unchanged}
 use Rattle.states.proofs.Laws.Progress.{to-ends}
 use Rattle.successors.proofs.Laws.Bare.{boths, both-behind}
 use Rattle.successors.proofs.bare.settle_both.Statement.{statement}
@@ -13,6 +12,8 @@ settle-both-spec = tie.close (tie.spec
     (λ c κs. search needs)
     (λ c. search needs)
     (λ c. search needs)
-    (λ c. (search (needs, unchanged, to-ends), (search (needs, unchanged, both-behind), search (needs, boths))))
+    (λ c. (search (needs, to-ends), (search (needs, both-behind), search (needs, boths))))
     (λ c κs. search needs)
-    (λ c. (search (needs, unchanged, to-ends), (search (needs, unchanged, both-behind), search (needs, boths)))))
+    (λ c. search needs)
+    (λ c. search needs)
+    (λ c. (search (needs, to-ends), (search (needs, both-behind), search (needs, boths)))))

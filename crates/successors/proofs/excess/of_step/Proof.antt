@@ -16,6 +16,7 @@ of-step-spec = tie.close (tie.spec
     (λ c κs. search needs)
     (λ c. search (needs, additions))
     (λ c κs. search needs)
+    (λ c κs. search needs)
     (λ c. search (needs, additions))
     (λ c. search (needs, additions))
     (λ c. search (needs, additions)))
