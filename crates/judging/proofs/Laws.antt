@@ -5,6 +5,7 @@ pub mod Meets
 pub mod Quiet
 pub mod Arrivals
 pub mod Reached
+pub mod Known
 pub mod Turn
 pub mod Loop
 pub mod Step

@@ -29,10 +29,12 @@ use Rattle.labels.specs.Head.{stepLabel, channelOf, takenOf}
 use Rattle.labels.specs.declared.head.Head as head
 use Rattle.judging.specs.Judged.{judgedOf}
 use Rattle.judging.specs.Reached.{Room, Here}
-use Rattle.judging.specs.Visit.{Judges, Comes}
+use Rattle.judging.specs.Known.{Knows, Tells}
+use Rattle.judging.specs.Visit.{Comes}
 use Rattle.judging.specs.declared.judged.Judged.{Judged}
 use Rattle.judging.specs.declared.judged.Judged.the-variants.{Done, Spent}
 use Rattle.judging.specs.declared.judged.Sum.{Sum}
+use Rattle.judging.specs.declared.known.Known.{Known}
 use Rattle.judging.specs.declared.judged.Turn.{Turn}
 use Rattle.judging.specs.declared.judged.Turn.the-variants.{On, End}
 
@@ -57,6 +59,12 @@ pub record Asked (s f : List ℕ) (body depth : ℕ) (st : code.State) (l : step
   pub small : overLabel (arrival .state .aliases) label ≡ false
   pub channelled : Labelled channel (channelOf (arrival .state .aliases) label)
   pub taking : l ≡ Input → Labelled taken (takenOf (arrival .state .aliases) label)
+
+-- The body, judged at the state that is left: what is known of it at the states that the steps lead to. Where quiet is true it has no steps.
+pub record Samples (quiet : Bool) (s f : List ℕ) (body depth : ℕ) (st : code.State) (l : step-label.Label) (m out : List ℕ) (r : Known)
+    (after : List ℕ) : Type 0 where
+  pub exact : {channel taken : List ℕ} (q : Asked s f body depth st l channel taken m out) → (quiet ≡ true → stepDepth (q .formula) ≡ 0)
+      → Knows r (q .formula) (q .label) (q .arrival .state .aliases) × Within (st .end) (length out) out after
 
 -- What the body comes to at the states that moves lead to.
 abbrev pub judgements : Formula → State → List Placed → Message → List Move → List Judgement
@@ -90,15 +98,16 @@ pub record Onward (l : step-label.Label) (start : ℕ) (ws : List Move) (judged 
   pub resuming : Resuming l start ws held message v others
   pub same : toCome sum (judged others) ≡ total
 
--- One turn: the next step is taken, and the body judged where it leads. Where quiet is true it has no steps.
+-- One turn: the next step is taken, and the body judged where it leads.
 pub record TurnTo (l : step-label.Label) (start : ℕ) (ws : List Move) (judged : List Move → List Judgement) (total : Judged) (held message : List ℕ)
     (r : Turn) : Type 0 where
   pub ends : (j : Judged) → r ≡ End j → j ≡ total
   pub goes : (v : step.Step) (sum : Sum) → r ≡ On v sum → Onward l start ws judged total held message v sum
 
-pub record Turns (quiet : Bool) (s f : List ℕ) (body depth : ℕ) (st : code.State) (from : step.Step) (channel taken m out held message : List ℕ) (sum : Sum) (r : Turn)
-    (after on said : List ℕ) : Type 0 where
+pub record Turns (quiet : Bool) (known : Known) (s f : List ℕ) (body depth : ℕ) (st : code.State) (from : step.Step)
+    (channel taken m out held message : List ℕ) (sum : Sum) (r : Turn) (after on said : List ℕ) : Type 0 where
   pub exact : (q : Asked s f body depth st (from .label) channel taken m out) → (quiet ≡ true → stepDepth (q .formula) ≡ 0)
+      → Knows known (q .formula) (q .label) (q .arrival .state .aliases)
       → {others : List Move} → 510 ≤ length held → 510 ≤ length message
       → Resuming (from .label) (st .start) (movesAt q) held message from others
       → TurnTo (from .label) (st .start) (movesAt q) (judgementsAt q) (toCome sum (judgementsAt q others)) on said r
@@ -110,18 +119,23 @@ turnOf v sum (Done truth limited more) =
     On v (record { truth = sum .truth || truth; limited = sum .limited || limited; left = more })
 turnOf v sum Spent = End Spent
 
-pub record Counts (s f : List ℕ) (body depth : ℕ) (v : step.Step) (formed : Formed) (m out : List ℕ) (sum : Sum) (r : Turn) (after : List ℕ) : Type 0
-  where
-    pub judged : Judged
-    pub judges : Judges s f body depth formed m out (sum .left) judged after
-    pub answer : r ≡ turnOf v sum judged
+pub record Counts (known : Known) (s f : List ℕ) (body depth : ℕ) (v : step.Step) (formed : Formed) (m out : List ℕ) (sum : Sum) (r : Turn)
+    (after : List ℕ) : Type 0 where
+  pub judged : Judged
+  pub tells : Tells known s f body depth formed m out (sum .left) judged after
+  pub answer : r ≡ turnOf v sum judged
 
 -- In any case a visit is taken off the budget where a further step was found, and nothing is added to it at the end.
 pub record Falls (left : ℕ) (r : Turn) : Type 0 where
   pub goes : (v : step.Step) (sum : Sum) → r ≡ On v sum → sum .left < left
   pub ends : (truth limited : Bool) (more : ℕ) → r ≡ End (Done truth limited more) → more ≤ left
 
--- All turns.
+-- All turns, and before them what is known of the body.
+pub record AllTurns (quiet : Bool) (known : Known) (s f : List ℕ) (head : head.Head) (depth : ℕ) (st : code.State)
+    (channel taken m out : List ℕ) (left : ℕ) (r : Judged) (after : List ℕ) : Type 0 where
+  pub exact : (q : Asked s f (head .body) depth st (head .label) channel taken m out) → (quiet ≡ true → stepDepth (q .formula) ≡ 0)
+      → Knows known (q .formula) (q .label) (q .arrival .state .aliases) → Comes st out left (someOf (judgementsAt q (movesAt q))) r after
+
 pub record AllSteps (s f : List ℕ) (head : head.Head) (depth : ℕ) (st : code.State) (channel taken m out : List ℕ) (left : ℕ) (r : Judged) (after : List ℕ)
     : Type 0 where
   pub exact : (q : Asked s f (head .body) depth st (head .label) channel taken m out)

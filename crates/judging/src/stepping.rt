@@ -1,9 +1,10 @@
-// A step formula judged at a state ("Judging and its count"): its body is judged at every state that a step of its label leads to.
-use crate::judge;
+// A step formula judged at a state ("Judging and its count"): its body is counted at every state that a step of its label leads to.
 use crate::judged;
 use crate::judged::Judged;
 use crate::judged::Sum;
 use crate::judged::Turn;
+use crate::known;
+use crate::known::Known;
 use crate::quiet;
 use arrivals::arrive;
 use arrivals::arrive::Arrived;
@@ -18,7 +19,7 @@ ghost use mathlib.Core.Path.{_≡_};
 ghost use Prim.Native.Nat.{_+_, _≤_};
 ghost use lib.ListN.{length};
 ghost use Rattle.judging.specs.Judged.{Less};
-ghost use Rattle.judging.specs.Steps.{Stepped, Counts, Turns, Falls, AllSteps};
+ghost use Rattle.judging.specs.Steps.{Stepped, Counts, Turns, Falls, AllTurns, AllSteps};
 
 // The most bytes of a message.
 const MESSAGE: usize = 510;
@@ -73,8 +74,7 @@ pub(crate) fn step(
     }
 }
 
-// The body of a step formula, judged at each state that a step of its label leads to. What a step sends, and the channel of a silent step of two
-// threads, stay from one step to the next.
+// The body of a step formula, counted at each state that a step of its label leads to, with what is known of it.
 fn steps(
     s: &[u8],
     f: &[u8],
@@ -93,6 +93,47 @@ fn steps(
     ensures { λ r. ⌜ Less (left + 1) r ⌝ }
     ensures { λ r. ⌜ AllSteps (now (s .entry)) (now (f .entry)) head depth state (now (channel .entry)) (now (taken .entry)) (now (m .entry)) (now (out .entry)) left r (now (out .exit)) ⌝ }
 {
+    let body = head.body;
+    let label = head.label;
+    let quiet = quiet::quiet(f, body, depth);
+    let known = known::sample(s, f, body, depth, label, quiet, state, m, out);
+    turns(
+        s,
+        f,
+        head,
+        depth,
+        state,
+        channel,
+        taken,
+        quiet,
+        known,
+        m,
+        out,
+        left,
+    )
+}
+
+// All turns, one for each step. What a step sends, and the channel of a silent step of two threads, stay from one step to the next.
+fn turns(
+    s: &[u8],
+    f: &[u8],
+    head: Head,
+    depth: usize,
+    state: State,
+    channel: &[u8],
+    taken: &[u8],
+    quiet: bool,
+    known: Known,
+    m: &mut [u8],
+    out: &mut [u8],
+    left: u32,
+) -> Judged
+    requires { ⌜ (length (now s) ≤ 36864) × (65536 ≤ length (now out)) × (state .end ≤ 50592) × (state .aliases ≤ state .end) ⌝ }
+    ensures { λ _. ⌜ length (now (m .exit)) ≡ length (now (m .entry)) ⌝ }
+    ensures { λ _. ⌜ length (now (out .exit)) ≡ length (now (out .entry)) ⌝ }
+    ensures { λ r. ⌜ Less (left + 1) r ⌝ }
+    ensures { λ r. ⌜ AllTurns quiet known (now (s .entry)) (now (f .entry)) head depth state (now (channel .entry)) (now (taken .entry)) (now (m .entry)) (now (out .entry)) left r (now (out .exit)) ⌝ }
+{
     let label = head.label;
     let mut from = next::before(label, state);
     let mut sum = Sum {
@@ -101,7 +142,6 @@ fn steps(
         left: left,
     };
     let body = head.body;
-    let quiet = quiet::quiet(f, body, depth);
     let mut held = [0u8; MESSAGE];
     let mut message = [0u8; MESSAGE];
     loop {
@@ -115,6 +155,7 @@ fn steps(
             channel,
             taken,
             quiet,
+            known,
             m,
             out,
             &mut held,
@@ -143,6 +184,7 @@ fn turn(
     channel: &[u8],
     taken: &[u8],
     quiet: bool,
+    known: Known,
     m: &mut [u8],
     out: &mut [u8],
     held: &mut [u8],
@@ -155,10 +197,10 @@ fn turn(
     ensures { λ _. ⌜ length (now (held .exit)) ≡ length (now (held .entry)) ⌝ }
     ensures { λ _. ⌜ length (now (message .exit)) ≡ length (now (message .entry)) ⌝ }
     ensures { λ r. ⌜ Falls (sum .left) r ⌝ }
-    ensures { λ r. ⌜ Turns quiet (now (s .entry)) (now (f .entry)) body depth state from (now (channel .entry)) (now (taken .entry)) (now (m .entry)) (now (out .entry)) (now (held .entry)) (now (message .entry)) sum r (now (out .exit)) (now (held .exit)) (now (message .exit)) ⌝ }
+    ensures { λ r. ⌜ Turns quiet known (now (s .entry)) (now (f .entry)) body depth state from (now (channel .entry)) (now (taken .entry)) (now (m .entry)) (now (out .entry)) (now (held .entry)) (now (message .entry)) sum r (now (out .exit)) (now (held .exit)) (now (message .exit)) ⌝ }
 {
     match arrive::next(s, state, from, channel, taken, quiet, m, out, held, message) {
-        Arrived::By(found, formed) => count(s, f, body, depth, found, formed, m, out, sum),
+        Arrived::By(found, formed) => count(s, f, body, depth, known, found, formed, m, out, sum),
         Arrived::None => Turn::End(Judged::Done(sum.truth, sum.limited, sum.left)),
     }
 }
@@ -169,6 +211,7 @@ fn count(
     f: &[u8],
     body: usize,
     depth: usize,
+    known: Known,
     found: Step,
     formed: Formed,
     m: &mut [u8],
@@ -178,9 +221,9 @@ fn count(
     ensures { λ _. ⌜ length (now (m .exit)) ≡ length (now (m .entry)) ⌝ }
     ensures { λ _. ⌜ length (now (out .exit)) ≡ length (now (out .entry)) ⌝ }
     ensures { λ r. ⌜ Falls (sum .left) r ⌝ }
-    ensures { λ r. ⌜ Counts (now (s .entry)) (now (f .entry)) body depth found formed (now (m .entry)) (now (out .entry)) sum r (now (out .exit)) ⌝ }
+    ensures { λ r. ⌜ Counts known (now (s .entry)) (now (f .entry)) body depth found formed (now (m .entry)) (now (out .entry)) sum r (now (out .exit)) ⌝ }
 {
-    match judge::judge(s, f, body, depth, formed, m, out, sum.left) {
+    match known::tell(s, f, body, depth, known, formed, m, out, sum.left) {
         Judged::Done(truth, limited, more) => Turn::On(
             found,
             Sum {

@@ -46,6 +46,9 @@ told-done left {n} {t} {l} {r} j e d = of (ltb left (j .count)) refl
         let more : n ≡ left - j .count = cc in
         record { count = omega arith; truth = cc; limited = cc }
 
+pub told-judgement : {left n : ℕ} {t l : Bool} (j : Judgement) → Told left j t l n → j ≡ record { truth = t; count = left - n; limited = l }
+told-judgement {left} {n} j w = let count : left - n ≡ j .count = omega (arith, w .count) in rw (w .truth, count, w .limited)
+
 pub told-spent : (left : ℕ) {r : Judged} (j : Judgement) → r ≡ judgedOf left j → r ≡ Spent → left < j .count
 unfolding judgedOf
 told-spent left {r} j e d = of (ltb left (j .count)) refl

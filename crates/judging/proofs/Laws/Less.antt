@@ -1,7 +1,7 @@
 -- In any case a visit is taken off the budget ("Judging and its count"). Assumes nothing.
 use mathlib.Core.Path.{_≡_}
 use mathlib.Core.Bool.{Bool}
-use Prim.Native.Nat.{ℕ, _+_, _-_, _<_}
+use Prim.Native.Nat.{ℕ, _+_, _-_, _≤_, _<_}
 use native.Mathlib.Omega.{arith}
 use Rattle.moves.specs.declared.step.Step as step
 use Rattle.judging.specs.Judged.{Less}
@@ -19,6 +19,9 @@ less-done {left} {n} h = record { there = λ t l n′ e. let same : n ≡ n′ =
 
 pub less-here : (left : ℕ) {t l : Bool} → Less (left + 1) (Done t l left)
 less-here left = less-done (omega arith)
+
+pub less-charged : {left n : ℕ} {t l : Bool} → (n ≡ 0 → ⊥) → n ≤ left → Less left (Done t l (left - n))
+less-charged {left} {n} some h = let positive : 0 < n = omega arith in less-done (omega arith)
 
 pub less-first : {left : ℕ} {t l : Bool} → (left ≡ 0 → ⊥) → Less left (Done t l (left - 1))
 less-first {left} some = let positive : 0 < left = omega arith in less-done (omega arith)
@@ -40,7 +43,7 @@ less-more less = record { there = λ t l n e. omega (arith, less .there t l n e)
 pub less-visit : {left : ℕ} {r : Judged} → (left ≡ 0 → ⊥) → Less (left - 1 + 1) r → Less left r
 less-visit {left} some less = let same : left - 1 + 1 ≡ left = omega arith in rw same at less
 
-pub ruleset lessening = (less-spent, less-here, less-first, less-after, less-later, less-both, less-more, less-visit)
+pub ruleset lessening = (less-spent, less-here, less-charged, less-first, less-after, less-later, less-both, less-more, less-visit)
 
 -- By a turn.
 pub falls-none : (left : ℕ) {t l : Bool} → Falls left (End (Done t l left))

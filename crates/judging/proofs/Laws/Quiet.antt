@@ -1,13 +1,17 @@
 -- Formulas without steps: how they are found, and that no thread of a state matters to them ("Judging and its count"). Assumes nothing.
 use mathlib.Core.Path.{_≡_, refl, sym, ap, ap₂, _∙_}
-use mathlib.Core.Bool.{Bool, true, false, true≢false}
+use mathlib.Core.Bool.{Bool, true, false, true≢false, _||_}
 use mathlib.Core.List.{List}
 use Prim.Native.Nat.{ℕ, _+_, _-_}
 use native.Mathlib.Omega.{arith}
 use lib.ListN.{getD}
+use Rattle.meaning.specs.Messages.Term.{Recipe}
+use Rattle.meaning.specs.Messages.Normal.{equal}
 use Rattle.meaning.specs.Bytes.Formula.{Formula}
 use Rattle.meaning.specs.Bytes.Nesting.{stepDepth}
-use Rattle.meaning.specs.Judging.{negated, both, judge}
+use Rattle.meaning.specs.Steps.State.{Bound, written}
+use Rattle.meaning.specs.Judging.{Judgement, visit, negated, both, judge}
+use Rattle.meaning.specs.Judging.Limits.{over}
 use Rattle.meaning.specs.Judging.Visits.{Arrival}
 use Rattle.layouts.specs.Ends.{FormulaEnd}
 use Rattle.labels.proofs.Laws.Formula.{shaped, of-not, of-and}
@@ -52,12 +56,20 @@ module _ {f : List ℕ} {at left : ℕ} where
 
 pub ruleset quiets = (may-step, equal-quiet, not-quiet, and-quiet, both-may, both-quiet)
 
--- Such a formula is judged alike at the state without its threads.
+-- Such a formula looks at nothing but aliases: it is judged alike where they are the same, and so at the state without its threads.
+abbrev equates : (M N : Recipe) → Bound → Judgement
+equates M N ρ =
+    visit (over ρ M || over ρ N) (λ _. record { truth = equal (written ρ M) (written ρ N); count = 1; limited = false })
+
+pub quiet-same : (F : Formula) (A B : Arrival) → stepDepth F ≡ 0 → overArrival A ≡ false → overArrival B ≡ false
+    → A .state .aliases ≡ B .state .aliases → judge F A ≡ judge F B
+quiet-same (Formula.equal M N) A B z a b e = judge-equal A a M N ∙ ap (equates M N) e ∙ sym (judge-equal B b M N)
+quiet-same (Formula.not F) A B z a b e = judge-not A a F ∙ ap negated (quiet-same F A B z a b e) ∙ sym (judge-not B b F)
+quiet-same (Formula.and F G) A B z a b e =
+    judge-and A a F G
+    ∙ ap₂ both (quiet-same F A B (omega arith) a b e) (quiet-same G A B (omega arith) a b e)
+    ∙ sym (judge-and B b F G)
+quiet-same (Formula.step a F) A B z free within e = absurd (omega arith)
+
 pub quiet-judge : (F : Formula) (A : Arrival) → stepDepth F ≡ 0 → overArrival A ≡ false → judge F A ≡ judge F (bareOf A)
-quiet-judge (Formula.equal M N) A z e = judge-equal A e M N ∙ sym (judge-equal (bareOf A) (bare-free A e) M N)
-quiet-judge (Formula.not F) A z e = judge-not A e F ∙ ap negated (quiet-judge F A z e) ∙ sym (judge-not (bareOf A) (bare-free A e) F)
-quiet-judge (Formula.and F G) A z e =
-    judge-and A e F G
-    ∙ ap₂ both (quiet-judge F A (omega arith) e) (quiet-judge G A (omega arith) e)
-    ∙ sym (judge-and (bareOf A) (bare-free A e) F G)
-quiet-judge (Formula.step a F) A z e = absurd (omega arith)
+quiet-judge F A z e = quiet-same F A (bareOf A) z e (bare-free A e) refl

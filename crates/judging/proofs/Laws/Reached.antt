@@ -7,7 +7,7 @@ use native.Mathlib.Omega.{arith}
 use lib.ListN.{length}
 use Rattle.meaning.specs.Judging.Visits.{Arrival}
 use Rattle.nodes.specs.Buffer.{Within}
-use Rattle.nodes.proofs.Laws.Buffer.{wider}
+use Rattle.nodes.proofs.Laws.Buffer.{unchanged, wider}
 use Rattle.terms.specs.Bound.{BoundAt}
 use Rattle.states.specs.declared.state.State as code
 use Rattle.forms.specs.Form.{StateAt, overArrival, Forms}
@@ -43,6 +43,10 @@ module _ {s out : List ℕ} {begin : ℕ} {A : Arrival} {r : Formed} (formed : F
 pub kept-below : {out after : List ℕ} {begin : ℕ} (r : Formed) → Above begin r → begin ≤ length out → Kept r out after → Within begin (length out) out after
 kept-below (At st) above h w = wider w above (omega arith)
 kept-below OverLimit above h w = wider w h (omega arith)
+
+pub kept-same : (formed : Formed) (out : List ℕ) → Kept formed out out
+kept-same (At st) out = unchanged
+kept-same OverLimit out = unchanged
 
 -- A state and its room stay.
 unfoldable pub here-kept : {s out out₁ : List ℕ} {st : code.State} {A : Arrival} {steps high : ℕ} → Within (st .end) high out out₁

@@ -51,13 +51,14 @@ use Rattle.arrivals.specs.declared.arrive.Arrived.the-variants.{By, None}
 use Rattle.arrivals.proofs.Laws.Sending.{added}
 use Rattle.arrivals.proofs.Laws.Arrive.{listed, sending}
 use Rattle.judging.specs.Judged.{judgedOf}
-use Rattle.judging.specs.Visit.{Judges}
+use Rattle.judging.specs.Known.{Knows, Tells}
 use Rattle.judging.specs.Steps.{Asked, movesAt, judgementsAt, toCome, TurnTo, turnOf, Counts, Turns}
 use Rattle.judging.specs.declared.judged.Judged.{Judged}
 use Rattle.judging.specs.declared.judged.Judged.the-variants.{Done, Spent}
 use Rattle.judging.specs.declared.judged.Sum.{Sum}
+use Rattle.judging.specs.declared.known.Known.{Known}
 use Rattle.judging.specs.declared.judged.Turn.{Turn}
-use Rattle.judging.specs.declared.judged.Turn.the-variants.{On, End}
+use Rattle.judging.specs.declared.judged.Turn.the-variants.{End}
 use Rattle.judging.proofs.Laws.Budget.{none-to-come, spent-to-come, more-to-come}
 use Rattle.judging.proofs.Laws.Quiet.{quiet-judge}
 use Rattle.judging.proofs.Laws.Reached.{reached, kept-below, room-kept}
@@ -140,8 +141,8 @@ module _ {s out out₁ : List ℕ} {st : code.State} {S : State} (h : Held s out
 -- The body judged at the state that a move leads to.
 module _ {s f channel taken m m₁ out out₁ after : List ℕ} {body depth : ℕ} {st : code.State} {l : step-label.Label} {left high : ℕ} {g : Formed} {j : Judged}
     {quiet : Bool} (wm : Within 0 high m m₁) (wo : Within (st .end) (length out) out out₁)
-    (judges : Judges s f body depth g m₁ out₁ left j after) (q : Asked s f body depth st l channel taken m out)
-    (plain : quiet ≡ true → stepDepth (q .formula) ≡ 0) where
+    {known : Known} (tells : Tells known s f body depth g m₁ out₁ left j after) (q : Asked s f body depth st l channel taken m out)
+    (plain : quiet ≡ true → stepDepth (q .formula) ≡ 0) (knows : Knows known (q .formula) (q .label) (here q .aliases)) where
   visited : (earlier others : List Move) (w : Move) → movesAt q ≡ earlier ++ (w ∷ others) → FormsFor quiet s (st .end) (led q w) g out₁
       → (j ≡ judgedOf left (judge (q .formula) (led q w))) × Within (st .end) (length out) out after
   visited earlier others w e (B, stands-for, forms) =
@@ -160,7 +161,8 @@ module _ {s f channel taken m m₁ out out₁ after : List ℕ} {body depth : �
       let (there, above) = reached forms (served .holding) (q .steps) (q .here .early) (omega (arith, q .here .few, bound (q .label))) in
       let stands : FormulaAt f body depth (q .steps) (length (B .state .aliases)) (q .formula) (q .next) =
       subst (λ (n : ℕ). FormulaAt f body depth (q .steps) n (q .formula) (q .next)) many (q .stands) in
-      let (answer, kept) = judges .exact (q .formula) B stands there (room-kept (wm .long) (wo .long) (q .room)) in
+      let (answer, kept) = tells .exact (q .formula) B stands there (room-kept (wm .long) (wo .long) (q .room))
+      (knows .led B (o .alias) alias (served .aliases)) in
       let later = kept-below g above (omega (arith, wo .long, h .at .records .size, q .here .early, q .room .long)) kept in (
         answer ∙ ap (judgedOf left) (served .judged),
         one-after wo later (omega arith) (omega arith) (omega arith) (omega (arith, wo .long)),
@@ -180,9 +182,10 @@ module _ {quiet : Bool} {s channel taken m out out₁ held message on said : Lis
   found q wide long b =
       arrives .exact (here q) (channelOf (here q .aliases) (q .label)) (takes q) (q .here .held) (q .channelled) (taking q) (leading q) wide long b
 
-  pub turn-none : (f : List ℕ) (body depth : ℕ) (sum : Sum) → r ≡ None
-      → Turns quiet s f body depth st from channel taken m out held message sum (End (Done (sum .truth) (sum .limited) (sum .left))) out₁ on said
-  turn-none f body depth sum e = record { exact = λ q z {others} wide long b. (of q others (found q wide long b), wo) }
+  pub turn-none : (known : Known) (f : List ℕ) (body depth : ℕ) (sum : Sum) → r ≡ None
+      → Turns quiet known s f body depth st from channel taken m out held message sum (End (Done (sum .truth) (sum .limited) (sum .left)))
+      out₁ on said
+  turn-none known f body depth sum e = record { exact = λ q z knows {others} wide long b. (of q others (found q wide long b), wo) }
     where
       of : (q : Asked s f body depth st (from .label) channel taken m out) (others : List Move)
           → ArrivedAt quiet s st (here q) (q .here .held .at .placed) (takes q) r out₁ on said others
@@ -194,8 +197,8 @@ module _ {quiet : Bool} {s channel taken m out out₁ held message on said : Lis
       }
       of q (w ∷ others) (g, a, forms, kept) = absurd (let z : _≡_ {A = ℕ} 0 1 = cc in omega arith)
 
-  module _ {f m₁ after : List ℕ} {body depth left high : ℕ} {v : step.Step} {g : Formed} {j : Judged} (e : r ≡ By v g)
-      (wm : Within 0 high m m₁) (judges : Judges s f body depth g m₁ out₁ left j after) where
+  module _ {f m₁ after : List ℕ} {body depth left high : ℕ} {known : Known} {v : step.Step} {g : Formed} {j : Judged} (e : r ≡ By v g)
+      (wm : Within 0 high m m₁) (tells : Tells known s f body depth g m₁ out₁ left j after) where
     -- The move that was made, what the body came to, and what stays.
     record Made (q : Asked s f body depth st (from .label) channel taken m out) (others : List Move) : Type 0 where
       move : Move
@@ -207,9 +210,10 @@ module _ {quiet : Bool} {s channel taken m out out₁ held message on said : Lis
       answer : j ≡ judgedOf left (judge (q .formula) (led q move))
       kept : Within (st .end) (length out) out after
 
-    made : (q : Asked s f body depth st (from .label) channel taken m out) → (quiet ≡ true → stepDepth (q .formula) ≡ 0) → {others : List Move}
+    made : (q : Asked s f body depth st (from .label) channel taken m out) → (quiet ≡ true → stepDepth (q .formula) ≡ 0)
+        → Knows known (q .formula) (q .label) (here q .aliases) → {others : List Move}
         → 510 ≤ length held → 510 ≤ length message → Resuming (from .label) (st .start) (movesAt q) held message from others → Made q others
-    made q z {others} wide long b = of others (b .behind) (found q wide long b)
+    made q z knows {others} wide long b = of others (b .behind) (found q wide long b)
       where
         of : (others : List Move) → Behind (from .label) (st .start) (movesAt q) from others
             → ArrivedAt quiet s st (here q) (q .here .held .at .placed) (takes q) r out₁ on said others → Made q others
@@ -219,7 +223,7 @@ module _ {quiet : Bool} {s channel taken m out out₁ held message on said : Lis
             let state : g′ ≡ g = cc in
             let (earlier, there) = listed b in
             let sends = sending (q .here .held) (from .label) (channelOf (here q .aliases) (q .label)) (takes q) earlier others w there in
-            let (answer, kept) = visited wm wo judges q z earlier others w there (rw state at forms) in
+            let (answer, kept) = visited wm wo tells q z knows earlier others w there (rw state at forms) in
             record {
               move = w;
               behind = others;
@@ -233,11 +237,13 @@ module _ {quiet : Bool} {s channel taken m out out₁ held message on said : Lis
               kept = kept;
             }
 
-  module _ {f m₁ after : List ℕ} {body depth high : ℕ} {sum : Sum} {v : step.Step} {g : Formed} (e : r ≡ By v g) (wm : Within 0 high m m₁) where
-    spent : Judges s f body depth g m₁ out₁ (sum .left) Spent after → Turns quiet s f body depth st from channel taken m out held message sum (End Spent) after on said
-    spent judges = record {
-      exact = λ q z wide long b.
-          let w = made e wm judges q z wide long b in
+  module _ {f m₁ after : List ℕ} {body depth high : ℕ} {known : Known} {sum : Sum} {v : step.Step} {g : Formed} (e : r ≡ By v g)
+      (wm : Within 0 high m m₁) where
+    spent : Tells known s f body depth g m₁ out₁ (sum .left) Spent after
+        → Turns quiet known s f body depth st from channel taken m out held message sum (End Spent) after on said
+    spent tells = record {
+      exact = λ q z knows wide long b.
+          let w = made e wm tells q z knows wide long b in
           let total = spent-to-come sum _ (judgementsAt q (w .behind)) (w .answer) refl in (
             record {
               ends = λ k x. let same : k ≡ Spent = cc in same ∙ total ∙ ap (λ ws. toCome sum (judgementsAt q ws)) (sym (w .same));
@@ -247,11 +253,11 @@ module _ {quiet : Bool} {s channel taken m out out₁ held message on said : Lis
           );
     }
 
-    goes-on : {n : ℕ} {t l : Bool} → Judges s f body depth g m₁ out₁ (sum .left) (Done t l n) after
-        → Turns quiet s f body depth st from channel taken m out held message sum (turnOf v sum (Done t l n)) after on said
-    goes-on {n} {t} {l} judges = record {
-      exact = λ q z wide long c.
-          let w = made e wm judges q z wide long c in
+    goes-on : {n : ℕ} {t l : Bool} → Tells known s f body depth g m₁ out₁ (sum .left) (Done t l n) after
+        → Turns quiet known s f body depth st from channel taken m out held message sum (turnOf v sum (Done t l n)) after on said
+    goes-on {n} {t} {l} tells = record {
+      exact = λ q z knows wide long c.
+          let w = made e wm tells q z knows wide long c in
           let more = more-to-come sum _ (judgementsAt q (w .behind)) (w .answer) refl refl refl in
           let now : Sum = record { truth = sum .truth || t; limited = sum .limited || l; left = n } in (
             record {
@@ -273,22 +279,11 @@ module _ {quiet : Bool} {s channel taken m out out₁ held message on said : Lis
           );
     }
 
-    pub turn-by : {t : Turn} → Counts s f body depth v g m₁ out₁ sum t after → Turns quiet s f body depth st from channel taken m out held message sum t after on said
-    turn-by {t} c = rw (c .answer) (of (c .judged) (c .judges))
+    pub turn-by : {t : Turn} → Counts known s f body depth v g m₁ out₁ sum t after
+        → Turns quiet known s f body depth st from channel taken m out held message sum t after on said
+    turn-by {t} c = rw (c .answer) (of (c .judged) (c .tells))
       where
-        of : (j : Judged) → Judges s f body depth g m₁ out₁ (sum .left) j after
-            → Turns quiet s f body depth st from channel taken m out held message sum (turnOf v sum j) after on said
-        of (Done t l n) judges = goes-on judges
-        of Spent judges = spent judges
-
--- The body judged there.
-module _ {s f m out after : List ℕ} {body depth : ℕ} {g : Formed} {sum : Sum} {j : Judged} (judges : Judges s f body depth g m out (sum .left) j after)
-    (v : step.Step) where
-  pub counts-done : {n : ℕ} {t l a b : Bool} → j ≡ Done t l n → a ≡ (sum .truth || t) → b ≡ (sum .limited || l)
-      → Counts s f body depth v g m out sum (On v (record { truth = a; limited = b; left = n })) after
-  counts-done e p q = record { judged = j; judges = judges; answer = rw (p, q, e) }
-
-  pub counts-spent : j ≡ Spent → Counts s f body depth v g m out sum (End Spent) after
-  counts-spent e = record { judged = j; judges = judges; answer = rw e }
-
-pub ruleset countings = (counts-done, counts-spent)
+        of : (j : Judged) → Tells known s f body depth g m₁ out₁ (sum .left) j after
+            → Turns quiet known s f body depth st from channel taken m out held message sum (turnOf v sum j) after on said
+        of (Done t l n) tells = goes-on tells
+        of Spent tells = spent tells

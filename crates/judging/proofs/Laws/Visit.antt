@@ -12,7 +12,7 @@ use Rattle.meaning.specs.Judging.{judge}
 use Rattle.meaning.specs.Judging.Limits.{over}
 use Rattle.meaning.specs.Judging.Visits.{Arrival}
 use Rattle.nodes.specs.Buffer.{Within}
-use Rattle.nodes.proofs.Laws.Buffer.{one-after, unchanged, wider}
+use Rattle.nodes.proofs.Laws.Buffer.{one-after, wider}
 use Rattle.layouts.specs.Ends.{FormulaEnd}
 use Rattle.binds.specs.Decide.{comparedOf, Compares}
 use Rattle.binds.specs.declared.decide.Compared.{Compared}
@@ -30,13 +30,9 @@ use Rattle.judging.specs.declared.judged.Judged.the-variants.{Done, Spen
 use Rattle.judging.specs.declared.judged.Sum.{Sum}
 use Rattle.judging.proofs.Laws.Budget.{spent-as, done-as, counted, not-done, not-spent, and-done, and-spent, second-done, second-spent}
 use Rattle.judging.proofs.Laws.Meets.{limit, compared, judge-over, judge-equal, judge-not, judge-and}
-use Rattle.judging.proofs.Laws.Reached.{here-kept, room-kept, bound-here}
+use Rattle.judging.proofs.Laws.Reached.{kept-same, here-kept, room-kept, bound-here}
 
 -- A visit that goes no further.
-kept-same : (formed : Formed) (out : List ℕ) → Kept formed out out
-kept-same (At st) out = unchanged
-kept-same OverLimit out = unchanged
-
 module _ {s f m out : List ℕ} {at depth left : ℕ} (formed : Formed) where
   pub judges-spent : left ≡ 0 → Judges s f at depth formed m out left Spent out
   judges-spent e = record {

@@ -1,4 +1,4 @@
--- The functions of judging meet their contracts. Formula nodes left on the path fall, eight calls to a node; the steps of a formula are
+-- The functions of judging meet their contracts. Formula nodes left on the path fall, nine calls to a node; the steps of a formula are
 -- a loop, in which what is left of the budget falls. Assumes nothing.
 use Prim.Native.Nat.{ℕ, _+_, _*_, _<_}
 use native.Mathlib.Omega.{arith}
@@ -8,6 +8,10 @@ use borrow.Fn.Kinds.{In, PK}
 use borrow.Fn.PlainCycle.{Measures, is, falls, and}
 use Rattle.judging.proofs.judge.conjunction.Reads as conjunction
 use Rattle.judging.proofs.judge.conjunction.Kinds as conjunction-kinds
+use Rattle.judging.proofs.known.sample.Reads as sample
+use Rattle.judging.proofs.known.sample.Kinds as sample-kinds
+use Rattle.judging.proofs.known.tell.Reads as tell
+use Rattle.judging.proofs.known.tell.Kinds as tell-kinds
 use Rattle.judging.proofs.stepping.count.Reads as count
 use Rattle.judging.proofs.stepping.count.Kinds as count-kinds
 use Rattle.judging.proofs.judge.judge.Reads as judge
@@ -24,53 +28,68 @@ use Rattle.judging.proofs.stepping.steps.Reads as steps
 use Rattle.judging.proofs.stepping.steps.Kinds as steps-kinds
 use Rattle.judging.proofs.stepping.turn.Reads as turn
 use Rattle.judging.proofs.stepping.turn.Kinds as turn-kinds
+use Rattle.judging.proofs.stepping.turns.Reads as turns
+use Rattle.judging.proofs.stepping.turns.Kinds as turns-kinds
 use Rattle.judging.proofs.judge.visit.Reads as visit
 use Rattle.judging.proofs.judge.visit.Kinds as visit-kinds
 use Rattle.arrivals.proofs.arrive.next.Reads as next-reads
 use Rattle.judging.proofs.judge.equality.Reads as equality-reads
 use Rattle.judging.proofs.judged.both.Reads as both-reads
 use Rattle.judging.proofs.judged.either.Reads as either-reads
+use Rattle.judging.proofs.known.charge.Reads as charge-reads
+use Rattle.judging.proofs.known.confined.Reads as confined-reads
+use Rattle.judging.proofs.known.fixed.Reads as fixed-reads
 use Rattle.labels.proofs.head.work.Reads as work-reads
 use Rattle.judging.proofs.quiet.quiet.Reads as quiet-reads
 use Rattle.layouts.proofs.ends.formula.Reads as formula-reads
 use Rattle.nodes.proofs.node.wide.Reads as wide-reads
 use Rattle.steps.proofs.next.before.Reads as before-reads
-use Rattle.judging.proofs.+judge-conjunction+judge-judge+judge-negation+judge-node+judge-second+judge-visit+stepping-count+stepping-step+stepping-steps+stepping-turn as cycle
+use Rattle.judging.proofs.+judge-conjunction+judge-judge+judge-negation+judge-node+judge-second+judge-visit+known-sample+known-tell+stepping-count+stepping-step+stepping-steps+stepping-turn+stepping-turns as cycle
 use Rattle.judging.proofs.Laws.Less.{lessening, falling}
 use Rattle.judging.proofs.Laws.Visit.{judgings, visitings, kinds, sides}
-use Rattle.judging.proofs.Laws.Turn.{turn-none, turn-by, countings}
-use Rattle.judging.proofs.Laws.Loop.{Looping, looping-falls, loopings}
+use Rattle.judging.proofs.Laws.Known.{samplings, tellings, countings}
+use Rattle.judging.proofs.Laws.Turn.{turn-none, turn-by}
+use Rattle.judging.proofs.Laws.Loop.{Looping, looping-falls, loopings, steps-known}
 use Rattle.judging.proofs.Laws.Step.{steppings, shortness}
 
 abbrev μ-conjunction : Measures 4 conjunction-kinds.ps ℕ
-μ-conjunction κs a = 8 * a .1 .1 .1 .0 + 9
+μ-conjunction κs a = 9 * a .1 .1 .1 .0 + 9
 
 abbrev μ-count : Measures 4 count-kinds.ps ℕ
-μ-count κs a = 8 * a .1 .1 .1 .0 + 8
+μ-count κs a = 9 * a .1 .1 .1 .0 + 9
 
 abbrev μ-judge : Measures 4 judge-kinds.ps ℕ
-μ-judge κs a = 8 * a .1 .1 .1 .0 + 7
+μ-judge κs a = 9 * a .1 .1 .1 .0 + 7
 
 abbrev μ-negation : Measures 4 negation-kinds.ps ℕ
-μ-negation κs a = 8 * a .1 .1 .1 .0 + 8
+μ-negation κs a = 9 * a .1 .1 .1 .0 + 8
 
 abbrev μ-node : Measures 4 node-kinds.ps ℕ
-μ-node κs a = 8 * a .1 .1 .1 .0 + 13
+μ-node κs a = 9 * a .1 .1 .1 .0 + 14
 
 abbrev μ-second : Measures 4 second-kinds.ps ℕ
-μ-second κs a = 8 * a .1 .1 .1 .0 + 8
+μ-second κs a = 9 * a .1 .1 .1 .0 + 8
+
+abbrev μ-sample : Measures 4 sample-kinds.ps ℕ
+μ-sample κs a = 9 * a .1 .1 .1 .0 + 8
 
 abbrev μ-step : Measures 4 step-kinds.ps ℕ
-μ-step κs a = 8 * a .1 .1 .1 .1 .0 + 11
+μ-step κs a = 9 * a .1 .1 .1 .1 .0 + 13
 
 abbrev μ-steps : Measures 6 steps-kinds.ps ℕ
-μ-steps κs a = 8 * a .1 .1 .1 .0 + 10
+μ-steps κs a = 9 * a .1 .1 .1 .0 + 12
+
+abbrev μ-tell : Measures 4 tell-kinds.ps ℕ
+μ-tell κs a = 9 * a .1 .1 .1 .0 + 8
 
 abbrev μ-turn : Measures 8 turn-kinds.ps ℕ
-μ-turn κs a = 8 * a .1 .1 .1 .0 + 9
+μ-turn κs a = 9 * a .1 .1 .1 .0 + 10
+
+abbrev μ-turns : Measures 6 turns-kinds.ps ℕ
+μ-turns κs a = 9 * a .1 .1 .1 .0 + 11
 
 abbrev μ-visit : Measures 4 visit-kinds.ps ℕ
-μ-visit κs a = 8 * a .1 .1 .1 .0 + 6
+μ-visit κs a = 9 * a .1 .1 .1 .0 + 6
 
 -- The measure is t, or below t, and what the function requires holds.
 abbrev at : (n : ℕ) (ps : List (PK n)) → Measures n ps ℕ → In n ps → ℕ → In n ps
@@ -79,24 +98,41 @@ at n ps μ pre t = and n ps (is n ps μ t) pre
 abbrev below : (n : ℕ) (ps : List (PK n)) → Measures n ps ℕ → In n ps → ℕ → In n ps
 below n ps μ pre t = and n ps (falls n ps _<_ μ t) pre
 
-abbrev steps-Inv-loop : cycle.Lts-stepping-steps.InvT-loop
-steps-Inv-loop s f depth state channel taken m₀ out₀ left from₀ sum₀ body quiet held₀ message₀ m out from sum held message =
-    Looping quiet s f body depth state (from₀ .label) channel taken m₀ out₀ left m out held message from sum
+abbrev turns-Inv-loop : cycle.Lts-stepping-turns.InvT-loop
+turns-Inv-loop s f depth state channel taken quiet known m₀ out₀ left from₀ sum₀ body held₀ message₀ m out from sum held message =
+    Looping quiet known s f body depth state (from₀ .label) channel taken m₀ out₀ left m out held message from sum
 
-abbrev steps-μ-loop : cycle.Lts-stepping-steps.MeasureT-loop
-steps-μ-loop s f depth state channel taken m₀ out₀ left from₀ sum₀ body quiet held₀ message₀ m out from sum held message = sum .left
+abbrev turns-μ-loop : cycle.Lts-stepping-turns.MeasureT-loop
+turns-μ-loop s f depth state channel taken quiet known m₀ out₀ left from₀ sum₀ body held₀ message₀ m out from sum held message = sum .left
 
--- A turn: what it hands on, and what it answers.
-turn-count-requires : (t : ℕ) → cycle.Lts-stepping-turn.Need-count-requires
-    (next-reads.Asked, next-reads.Learnt, below 4 count-kinds.ps μ-count count.Pre t, count.Post)
-    (at 8 turn-kinds.ps μ-turn turn.Pre t)
-    turn.Post
+-- What is known of the functions that are called on the way from a step formula to its turns.
+abbrev step-claims : ℕ → cycle.Lts-stepping-step.Claims
+step-claims t = (work-reads.Asked, work-reads.Learnt, below 6 steps-kinds.ps μ-steps steps.Pre t, steps.Post)
+
+abbrev turn-claims : ℕ → cycle.Lts-stepping-turn.Claims
+turn-claims t = (next-reads.Asked, next-reads.Learnt, below 4 count-kinds.ps μ-count count.Pre t, count.Post)
+
+abbrev turns-claims : ℕ → cycle.Lts-stepping-turns.Claims
+turns-claims t = (before-reads.Asked, before-reads.Learnt, below 8 turn-kinds.ps μ-turn turn.Pre t, turn.Post)
+
+-- A step formula: what it hands on, and what it answers.
+step-steps-requires : (t : ℕ) → cycle.Lts-stepping-step.Need-steps-requires (step-claims t) (at 4 step-kinds.ps μ-step step.Pre t) step.Post
+step-steps-requires t c κs = search needs
+
+step-returns : (t : ℕ) → cycle.Lts-stepping-step.Need-returns (step-claims t) (at 4 step-kinds.ps μ-step step.Pre t) step.Post
+step-returns t c = (search needs, (search needs, (search (needs, lessening), search (needs, steppings))))
+
+step-returns-2 : (t : ℕ) → cycle.Lts-stepping-step.Need-returns-2 (step-claims t) (at 4 step-kinds.ps μ-step step.Pre t) step.Post
+step-returns-2 t c = (search needs, (search needs, (search (needs, lessening), search (needs, steppings))))
+
+-- A turn.
+turn-next-requires : (t : ℕ) → cycle.Lts-stepping-turn.Need-next-requires (turn-claims t) (at 8 turn-kinds.ps μ-turn turn.Pre t) turn.Post
+turn-next-requires t c κs = search needs
+
+turn-count-requires : (t : ℕ) → cycle.Lts-stepping-turn.Need-count-requires (turn-claims t) (at 8 turn-kinds.ps μ-turn turn.Pre t) turn.Post
 turn-count-requires t c κs = let given = c .before .before .before .before .before .before .before .before .before .before .before .before .before .before .before .before .before .before .before .before .before .before .before .before .before .before .pre in (omega (arith, given .0), search needs)
 
-turn-returns : (t : ℕ) → cycle.Lts-stepping-turn.Need-returns
-    (next-reads.Asked, next-reads.Learnt, below 4 count-kinds.ps μ-count count.Pre t, count.Post)
-    (at 8 turn-kinds.ps μ-turn turn.Pre t)
-    turn.Post
+turn-returns : (t : ℕ) → cycle.Lts-stepping-turn.Need-returns (turn-claims t) (at 8 turn-kinds.ps μ-turn turn.Pre t) turn.Post
 turn-returns t c =
     let counted = c .before .before .before .before .count .ensures in
     let arrived = c .before .before .before .before .before .before .before .before .before .before .before .before .before .before .before .before .before .before .next .ensures in (
@@ -116,14 +152,28 @@ turn-returns t c =
       ),
     )
 
-turn-returns-2 : (t : ℕ) → cycle.Lts-stepping-turn.Need-returns-2
-    (next-reads.Asked, next-reads.Learnt, below 4 count-kinds.ps μ-count count.Pre t, count.Post)
-    (at 8 turn-kinds.ps μ-turn turn.Pre t)
-    turn.Post
+turn-returns-2 : (t : ℕ) → cycle.Lts-stepping-turn.Need-returns-2 (turn-claims t) (at 8 turn-kinds.ps μ-turn turn.Pre t) turn.Post
 turn-returns-2 t c = (search needs, (search needs, (search needs, (search needs, (search (needs, falling), search (needs, turn-none))))))
 
-pub +judge·conjunction+judge·judge+judge·negation+judge·node+judge·second+judge·visit+stepping·count+stepping·step+stepping·steps+stepping·turn-spec : {M : Type 1} → cycle.statement M
-+judge·conjunction+judge·judge+judge·negation+judge·node+judge·second+judge·visit+stepping·count+stepping·step+stepping·steps+stepping·turn-spec =
+-- All turns.
+turns-loop-holds : (t : ℕ) → cycle.Lts-stepping-turns.Need-loop-holds (turns-claims t) (at 6 turns-kinds.ps μ-turns turns.Pre t)
+    turns.Post turns-Inv-loop turns-μ-loop
+turns-loop-holds t c = search (needs, loopings)
+
+turns-turn-requires : (t : ℕ) → cycle.Lts-stepping-turns.Need-turn-requires (turns-claims t) (at 6 turns-kinds.ps μ-turns turns.Pre t)
+    turns.Post turns-Inv-loop turns-μ-loop
+turns-turn-requires t c κs = search needs
+
+turns-loop-again : (t : ℕ) → cycle.Lts-stepping-turns.Need-loop-again (turns-claims t) (at 6 turns-kinds.ps μ-turns turns.Pre t)
+    turns.Post turns-Inv-loop turns-μ-loop
+turns-loop-again t c = search (needs, loopings)
+
+turns-returns : (t : ℕ) → cycle.Lts-stepping-turns.Need-returns (turns-claims t) (at 6 turns-kinds.ps μ-turns turns.Pre t)
+    turns.Post turns-Inv-loop turns-μ-loop
+turns-returns t c = (search needs, (search needs, (search (needs, loopings), search (needs, loopings))))
+
+pub +judge·conjunction+judge·judge+judge·negation+judge·node+judge·second+judge·visit+known·sample+known·tell+stepping·count+stepping·step+stepping·steps+stepping·turn+stepping·turns-spec : {M : Type 1} → cycle.statement M
++judge·conjunction+judge·judge+judge·negation+judge·node+judge·second+judge·visit+known·sample+known·tell+stepping·count+stepping·step+stepping·steps+stepping·turn+stepping·turns-spec =
     cycle.Tie.close
     μ-conjunction
     μ-judge
@@ -131,10 +181,13 @@ pub +judge·conjunction+judge·judge+judge·negation+judge·node+judge·second+j
     μ-node
     μ-second
     μ-visit
+    μ-sample
+    μ-tell
     μ-count
     μ-step
     μ-steps
     μ-turn
+    μ-turns
     (λ t. cycle.Lts-judge-conjunction.spec (
       below 4 judge-kinds.ps μ-judge judge.Pre t,
       judge.Post,
@@ -254,9 +307,44 @@ pub +judge·conjunction+judge·judge+judge·negation+judge·node+judge·second+j
     (λ c. search needs)
     (λ c. search needs)
     (λ c. (search needs, (search needs, (search (needs, lessening), search (needs, visitings))))))
-    (λ t. cycle.Lts-stepping-count.spec (
+    (λ t. cycle.Lts-known-sample.spec
+    (fixed-reads.Asked, fixed-reads.Learnt, below 4 judge-kinds.ps μ-judge judge.Pre t, judge.Post)
+    (at 4 sample-kinds.ps μ-sample sample.Pre t)
+    sample.Post
+    (λ c κs. search needs)
+    (λ c κs. search needs)
+    (λ c. search needs)
+    (λ c. search needs)
+    (λ c. search needs)
+    (λ c. search needs)
+    (λ c. search needs)
+    (λ c. (search needs, (search needs, search (needs, samplings))))
+    (λ c. search needs)
+    (λ c. search needs)
+    (λ c. (search needs, (search needs, search (needs, samplings))))
+    (λ c. (search needs, (search needs, search (needs, samplings)))))
+    (λ t. cycle.Lts-known-tell.spec (
+      confined-reads.Asked,
+      confined-reads.Learnt,
+      charge-reads.Asked,
+      charge-reads.Learnt,
       below 4 judge-kinds.ps μ-judge judge.Pre t,
       judge.Post,
+    )
+    (at 4 tell-kinds.ps μ-tell tell.Pre t)
+    tell.Post
+    (λ c κs. search needs)
+    (λ c. search needs)
+    (λ c κs. search needs)
+    (λ c. search needs)
+    (λ c κs. search needs)
+    (λ c. (search needs, (search needs, (search needs, search (needs, tellings)))))
+    (λ c. search needs)
+    (λ c. search needs)
+    (λ c. (search needs, (search needs, (search needs, search (needs, tellings))))))
+    (λ t. cycle.Lts-stepping-count.spec (
+      below 4 tell-kinds.ps μ-tell tell.Pre t,
+      tell.Post,
       either-reads.Asked,
       either-reads.Learnt,
     )
@@ -273,14 +361,7 @@ pub +judge·conjunction+judge·judge+judge·negation+judge·node+judge·second+j
     (λ c. search needs)
     (λ c. search needs)
     (λ c. (search needs, (search needs, (search (needs, falling), search (needs, countings))))))
-    (λ t. cycle.Lts-stepping-step.spec (
-      work-reads.Asked,
-      work-reads.Learnt,
-      below 6 steps-kinds.ps μ-steps steps.Pre t,
-      steps.Post,
-    )
-    (at 4 step-kinds.ps μ-step step.Pre t)
-    step.Post
+    (λ t. cycle.Lts-stepping-step.spec (step-claims t) (at 4 step-kinds.ps μ-step step.Pre t) step.Post
     (λ c. search needs)
     (λ c. search needs)
     (λ c κs. search needs)
@@ -291,43 +372,31 @@ pub +judge·conjunction+judge·judge+judge·negation+judge·node+judge·second+j
     (λ c. search needs)
     (λ c. search (needs, shortness))
     (λ c. search (needs, shortness))
-    (λ c κs. search needs)
+    (step-steps-requires t)
     (λ c. search needs)
     (λ c. search needs)
     (λ c. search needs)
-    (λ c. (search needs, (search needs, (search (needs, lessening), search (needs, steppings)))))
+    (step-returns t)
     (λ c. search needs)
-    (λ c. (search needs, (search needs, (search (needs, lessening), search (needs, steppings))))))
+    (step-returns-2 t))
     (λ t. cycle.Lts-stepping-steps.spec (
-      before-reads.Asked,
-      before-reads.Learnt,
       quiet-reads.Asked,
       quiet-reads.Learnt,
-      below 8 turn-kinds.ps μ-turn turn.Pre t,
-      turn.Post,
+      below 4 sample-kinds.ps μ-sample sample.Pre t,
+      sample.Post,
+      below 6 turns-kinds.ps μ-turns turns.Pre t,
+      turns.Post,
     )
     (at 6 steps-kinds.ps μ-steps steps.Pre t)
     steps.Post
-    steps-Inv-loop
-    steps-μ-loop
     (λ c κs. search needs)
     (λ c κs. search needs)
-    (λ c. search (needs, loopings))
-    (λ c. search (needs, loopings))
-    (λ c. search (needs, loopings))
     (λ c κs. search needs)
     (λ c. search needs)
-    (λ c. search (needs, looping-falls))
-    (λ c. search (needs, loopings))
     (λ c. search needs)
-    (λ c. search needs)
-    (λ c. search needs)
-    (λ c. (search needs, (search needs, (search (needs, loopings), search (needs, loopings))))))
-    λ t. cycle.Lts-stepping-turn.spec
-    (next-reads.Asked, next-reads.Learnt, below 4 count-kinds.ps μ-count count.Pre t, count.Post)
-    (at 8 turn-kinds.ps μ-turn turn.Pre t)
-    turn.Post
-    (λ c κs. search needs)
+    (λ c. (search needs, (search needs, (search needs, search (needs, steps-known))))))
+    (λ t. cycle.Lts-stepping-turn.spec (turn-claims t) (at 8 turn-kinds.ps μ-turn turn.Pre t) turn.Post
+    (turn-next-requires t)
     (λ c. search needs)
     (turn-count-requires t)
     (λ c. search needs)
@@ -340,4 +409,17 @@ pub +judge·conjunction+judge·judge+judge·negation+judge·node+judge·second+j
     (λ c. search needs)
     (λ c. search needs)
     (λ c. search needs)
-    (turn-returns-2 t)
+    (turn-returns-2 t))
+    λ t. cycle.Lts-stepping-turns.spec (turns-claims t) (at 6 turns-kinds.ps μ-turns turns.Pre t) turns.Post turns-Inv-loop turns-μ-loop
+    (λ c κs. search needs)
+    (turns-loop-holds t)
+    (λ c. search (needs, loopings))
+    (λ c. search (needs, loopings))
+    (turns-turn-requires t)
+    (λ c. search needs)
+    (λ c. search (needs, looping-falls))
+    (turns-loop-again t)
+    (λ c. search needs)
+    (λ c. search needs)
+    (λ c. search needs)
+    (turns-returns t)
