@@ -139,31 +139,8 @@ module _ {s out : List ℕ} {to at : ℕ} {e : Excess} where
 
 pub ruleset openings = (opens-not, opens-itself, opens-copies)
 
--- Two of these together.
-module _ {d e r : Excess} where
-  pub sums-not : 32 < r .threads → Sums d e r
-  sums-not l = record {
-    first = λ few. absurd (omega arith);
-    second = λ few. absurd (omega arith);
-    threads = λ few. absurd (omega arith);
-    nodes = λ few. absurd (omega arith);
-  }
-
-  pub sums-so : d .threads ≤ 32 → e .threads ≤ 32 → r ≡ record { threads = d .threads + e .threads; nodes = d .nodes + e .nodes } → Sums d e r
-  sums-so l k f = record {
-    first = λ few. l;
-    second = λ few. k;
-    threads = λ few. ap (λ (x : Excess). x .threads) f;
-    nodes = λ few. ap (λ (x : Excess). x .nodes) f;
-  }
-
-pub ruleset sums = (sums-not, sums-so)
-
--- A step: of one thread, by which of the two acts with its label; of two; or one of which nothing is said.
+-- A step: of one thread, by which of the two acts with its label; of two; or in the copies of one.
 module _ {s out : List ℕ} {st : code.State} {v : step.Step} {e : Excess} where
-  pub adds-not : 32 < e .threads → Adds s st v out e
-  adds-not l = record { exact = λ few. absurd (omega arith) }
-
   adds-one : (label : Label) (who : step.Step → Actor) → ¬ (Silent ≡ label)
       → ((p : Spot) (a : Acting) → stepOf (st .start) (alone p a) .label ≡ label → who (stepOf (st .start) (alone p a)) ≡ actor (st .start) p a)
       → v .label ≡ label → Opens s (st .end) (who v .at) out e → Adds s st v out e
@@ -283,4 +260,4 @@ module _ {s out : List ℕ} {st : code.State} {v : step.Step} {e : Excess} where
                 );
           }
 
-pub ruleset additions = (adds-not, adds-output, adds-input, adds-both, adds-inside)
+pub ruleset additions = (adds-output, adds-input, adds-both, adds-inside)
