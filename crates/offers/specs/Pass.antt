@@ -14,7 +14,7 @@ use Rattle.states.specs.Record.{Placed, encodeRecord, Standing}
 use Rattle.threads.specs.declared.task.Quest.{Quest}
 use Rattle.moves.specs.Spot.{offersOf}
 use Rattle.forms.specs.Visit.{RecordAt}
-use Rattle.offers.specs.Seek.{Sight, firstOf, firstAmong, afresh, Seeks}
+use Rattle.offers.specs.Seek.{Sight, firstOf, firstAmong, startingAt, Seeks}
 use Rattle.offers.specs.declared.pass.Passed.{Passed}
 use Rattle.offers.specs.declared.seek.Sighting.{Sighting}
 
@@ -32,7 +32,7 @@ pub record Idle (s label : List ℕ) (place : ℕ) (q : Quest) (r : Bool) : Type
 pub record Skips (s label : List ℕ) (at : ℕ) (q : Quest) (skip : ℕ) (out : List ℕ) (r : Bool) : Type 0 where
   pub exact : r ≡ true → (t : Placed) (ts : List Placed) (x : Message) (k : ℕ) {next : ℕ} → RecordAt s out at t next → q .but ≡ 0
       → label ≡ encodeMessage x
-      → firstAmong q x k skip at (t ∷ ts) ≡ firstAmong (afresh q) x k skip (at + length (encodeRecord t)) ts
+      → firstAmong q x k skip at (t ∷ ts) ≡ firstAmong (startingAt q 0) x k skip (at + length (encodeRecord t)) ts
   pub other : r ≡ false → at ≡ skip → ⊥
 
 -- What the quest f seeks from the position i on is what the quest q seeks from the position at on.
@@ -42,9 +42,9 @@ pub record Onward (s label : List ℕ) (at to : ℕ) (q : Quest) (skip : ℕ) (o
 
 -- So it is from the answer on, and the record there is not the one at the position skip.
 pub record Passes (s label : List ℕ) (at to : ℕ) (q : Quest) (skip : ℕ) (out : List ℕ) (r : Passed) : Type 0 where
-  pub onward : Onward s label at to q skip out (r .at) (r .quest)
+  pub onward : Onward s label at to q skip out (r .at) (startingAt q (r .from))
   pub other : r .at < to → 4 ≤ to - r .at → r .at ≡ skip → ⊥
 
 -- The same of what is sought behind the record at the position at.
 pub record Behind (s label : List ℕ) (at to : ℕ) (q : Quest) (skip : ℕ) (out : List ℕ) (r : Passed) : Type 0 where
-  pub passes : Passes s label (at + 4 + numberAt out (at + 2)) to (afresh q) skip out r
+  pub passes : Passes s label (at + 4 + numberAt out (at + 2)) to (startingAt q 0) skip out r

@@ -25,9 +25,9 @@ pub data Sight : Type 0 where
   unseen : Sight
   seen : (at : ℕ) → Acting → Sight
 
--- The same quest from the first offer of a thread on.
-abbrev pub afresh : Quest → Quest
-afresh q = record { output = q .output; any = q .any; from = 0; but = q .but }
+-- The same quest from another position on.
+abbrev pub startingAt : Quest → (from : ℕ) → Quest
+startingAt q from = record { output = q .output; any = q .any; from = from; but = q .but }
 
 -- The first of the offers of one thread, or else what is seen later.
 unfoldable pub firstOf : Quest → Message → (at : ℕ) → List Acting → Sight → Sight
@@ -39,7 +39,7 @@ firstOf q x at (a ∷ others) later = elim (wanted q x a) [ true ↦ seen at a |
 unfoldable pub firstAmong : Quest → Message → (k skip at : ℕ) → List Placed → Sight
 firstAmong q x k skip at [] = unseen
 firstAmong q x k skip at (t ∷ ts) =
-    let later = firstAmong (afresh q) x k skip (at + length (encodeRecord t)) ts in
+    let later = firstAmong (startingAt q 0) x k skip (at + length (encodeRecord t)) ts in
     elim (eqb at skip) [ true ↦ later | false ↦ firstOf q x at (offersOf t k) later ]
 
 -- What is seen, as numbers and bytes.

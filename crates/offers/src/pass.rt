@@ -6,7 +6,7 @@ use threads::thread;
 ghost use mathlib.Core.Path.{_≡_};
 ghost use Prim.Native.Nat.{_+_, _≤_, _<_};
 ghost use lib.ListN.{length};
-ghost use Rattle.offers.specs.Seek.{afresh};
+ghost use Rattle.offers.specs.Seek.{startingAt};
 ghost use Rattle.offers.specs.Pass.{Differs, Idle, Skips, Passes, Behind};
 
 // The kind of a repl.
@@ -17,20 +17,20 @@ const NAME: usize = 0;
 
 const SHORT: usize = 128;
 
-// Where the first record stands that is not passed by, and what is sought from there on.
+// Where the first record stands that is not passed by, and the position from which on its thread's offers are sought.
 pub(crate) struct Passed {
     pub at: usize,
-    pub quest: Quest,
+    pub from: usize,
 }
 
-// The same quest from the first offer of a thread on.
-fn afresh(quest: Quest) -> Quest
-    ensures { λ r. ⌜ r ≡ afresh quest ⌝ }
+// The same quest from another position on.
+pub(crate) fn starting(quest: Quest, from: usize) -> Quest
+    ensures { λ r. ⌜ r ≡ startingAt quest from ⌝ }
 {
     Quest {
         output: quest.output,
         any: quest.any,
-        from: 0,
+        from: from,
         but: quest.but,
     }
 }
@@ -109,24 +109,20 @@ pub(crate) fn pass(
     ensures { λ r. ⌜ at ≤ r .at ⌝ }
     ensures { λ r. ⌜ Passes (now (s .entry)) (now (label .entry)) at to quest skip (now (out .entry)) r ⌝ }
 {
+    let mut i = at;
+    let mut from = quest.from;
     if to < 4 {
-        return Passed {
-            at: at,
-            quest: quest,
-        };
+        return Passed { at: i, from: from };
     }
     let last = to - 4;
-    let later = afresh(quest);
-    let mut i = at;
-    let mut here = quest;
     while i <= last {
-        if !skipped(s, label, i, here, skip, out) {
-            return Passed { at: i, quest: here };
+        if !skipped(s, label, i, starting(quest, from), skip, out) {
+            return Passed { at: i, from: from };
         }
         i = i + 4 + node::number(out, i + 2);
-        here = later;
+        from = 0;
     }
-    Passed { at: i, quest: here }
+    Passed { at: i, from: from }
 }
 
 // The first such record behind the one at a position.
@@ -144,5 +140,5 @@ pub(crate) fn behind(
     ensures { λ r. ⌜ Behind (now (s .entry)) (now (label .entry)) at to quest skip (now (out .entry)) r ⌝ }
 {
     let next = at + 4 + node::number(out, at + 2);
-    pass(s, label, next, to, afresh(quest), skip, out)
+    pass(s, label, next, to, starting(quest, 0), skip, out)
 }

@@ -152,16 +152,17 @@ pub fn seek(
     let last = to - 4;
     let first = pass::pass(s, label, at, to, quest, skip, out);
     let mut i = first.at;
-    let mut here = first.quest;
+    let mut from = first.from;
     while i <= last {
+        let here = pass::starting(quest, from);
         let done = look(s, label, i, to, m, here, names, out);
         let going = done.going;
         if !going {
             return Sighting { at: i, done: done };
         }
-        let further = pass::behind(s, label, i, to, here, skip, out);
+        let further = pass::behind(s, label, i, to, quest, skip, out);
         i = further.at;
-        here = further.quest;
+        from = further.from;
     }
     nothing(i, to, names)
 }

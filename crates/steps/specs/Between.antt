@@ -17,7 +17,7 @@ use Rattle.moves.specs.Threads.{Threads}
 use Rattle.forms.specs.Visit.{Labelled}
 use Rattle.moves.specs.Moves.{Move, between, meetings}
 use Rattle.moves.specs.Outcome.{same}
-use Rattle.offers.specs.Seek.{Sight, unseen, seen, afresh, Sees, ShowsSight}
+use Rattle.offers.specs.Seek.{Sight, unseen, seen, startingAt, Sees, ShowsSight}
 use Rattle.moves.specs.CopyOffers.{outputs, inputs, channelOf}
 use Rattle.moves.specs.CopyMoves.{laterSpots, Roomy}
 use Rattle.moves.specs.Step.{actor}
@@ -34,7 +34,7 @@ pub record Party : Type 0 where
 -- The offers of a quest among threads, f being what a thread offers. Where the quest begins matters in the first thread only.
 unfoldable pub partiesFrom : Quest → Message → (f : Spot → List Acting) → List Spot → List Party
 partiesFrom q x f [] = []
-partiesFrom q x f (p ∷ ps) = map (λ a. record { spot = p; offer = a }) (filter (wanted q x) (f p)) ++ partiesFrom (afresh q) x f ps
+partiesFrom q x f (p ∷ ps) = map (λ a. record { spot = p; offer = a }) (filter (wanted q x) (f p)) ++ partiesFrom (startingAt q 0) x f ps
 
 -- The senders among threads, copies being opened at k, in the first thread from the position x on. The message of the label does not matter.
 unfoldable pub sendersFrom : (k x : ℕ) → List Spot → List Party

@@ -14,7 +14,7 @@ use Rattle.threads.specs.declared.task.Quest.{Quest}
 use Rattle.forms.specs.Visit.{Labelled}
 use Rattle.moves.specs.Threads.{Threads}
 use Rattle.moves.proofs.Laws.Threads.{first-thread, no-threads, record-end}
-use Rattle.offers.specs.Seek.{afresh, firstAmong, ShowsSight, Seeks}
+use Rattle.offers.specs.Seek.{startingAt, firstAmong, ShowsSight, Seeks}
 use Rattle.offers.specs.Pass.{Idle, Skips, Onward, Passes, Behind}
 use Rattle.offers.specs.declared.pass.Passed.{Passed}
 use Rattle.offers.specs.declared.seek.Sighting.{Sighting}
@@ -38,51 +38,44 @@ module _ {s label out : List ℕ} {at skip : ℕ} {q : Quest} where
 
 pub ruleset skips = (skips-own, skips-idle)
 
--- The quest f is the quest q from the first offer of a thread on. So it is its own.
-pub record Fresh (q f : Quest) : Type 0 where
-  pub same : f ≡ afresh q
-
-pub fresh-first : {q f : Quest} → f ≡ afresh q → Fresh q f
-fresh-first e = record { same = e }
-
-pub fresh-again : {q f : Quest} → Fresh q f → Fresh f f
-fresh-again e = record { same = rw (e .same) }
-
 -- None is gone over; or one more.
 module _ {s label out : List ℕ} {at to skip : ℕ} {q : Quest} where
-  pub onward-none : Onward s label at to q skip out at q
+  pub onward-none : Onward s label at to q skip out at (startingAt q (q .from))
   onward-none = record { same = λ m k v. v }
 
-  pub onward-more : {i size : ℕ} {here f : Quest} {r : Bool} → Onward s label at to q skip out i here → Skips s label i here skip out r
-      → not r ≡ false → size ≡ numberAt out (i + 2) → 4 ≤ to → i ≤ to - 4 → Fresh here f → Onward s label at to q skip out (i + 4 + size) f
-  onward-more {i} {size} {here} {f} {r} before d own z some low e = record { same = λ m k v. before .same m k (record { exact = of m k v }) }
+  pub onward-more : {i from size : ℕ} {here : Quest} {r : Bool} → Onward s label at to q skip out i (startingAt q from) → here ≡ startingAt q from
+      → Skips s label i here skip out r → not r ≡ false → size ≡ numberAt out (i + 2) → 4 ≤ to → i ≤ to - 4
+      → Onward s label at to q skip out (i + 4 + size) (startingAt q 0)
+  onward-more {i} {from} {size} {here} {r} before e d own z some low = record { same = λ m k v. before .same m k (record { exact = of m k v }) }
     where
-      of : (m : List ℕ) (n : ℕ) {r : Sighting} {after : List ℕ} → Seeks s label (i + 4 + size) to m f skip n out r after
-          → (ps : List Placed) (x : Message) {k : ℕ} → Threads s out i k ps to → k ≤ n → here .but ≡ 0 → Labelled label x
+      gone : Skips s label i (startingAt q from) skip out r
+      gone = rw e at d
+
+      of : (m : List ℕ) (n : ℕ) {r : Sighting} {after : List ℕ} → Seeks s label (i + 4 + size) to m (startingAt q 0) skip n out r after
+          → (ps : List Placed) (x : Message) {k : ℕ} → Threads s out i k ps to → k ≤ n → q .but ≡ 0 → Labelled label x
           → length s ≤ 36864 → 10750 ≤ length m → to + 3964 ≤ length out → n ≤ 28664
-          → ShowsSight after r (firstAmong here x n skip i ps)
+          → ShowsSight after r (firstAmong (startingAt q from) x n skip i ps)
       of m n v [] x h kn b l l1 l2 l3 l4 = absurd (omega (arith, no-threads h))
       of m n v (t ∷ ts) x h kn b l l1 l2 l3 l4 =
           let (p, j, rest) = first-thread t ts h in
           let next : i + length (encodeRecord t) ≡ i + 4 + size = omega (arith, record-end t ts h) in
-          rw (d .exact (true-so r own) t ts x n p b (l .same), next, ← e .same) (v .exact ts x (rw next at rest) kn (rw (e .same) b) l l1 l2 l3 l4)
+          rw (gone .exact (true-so r own) t ts x n p b (l .same), next) (v .exact ts x (rw next at rest) kn b l l1 l2 l3 l4)
 
   -- The answer.
-  pub passes-here : {i : ℕ} {here : Quest} {r : Bool} → Onward s label at to q skip out i here → Skips s label i here skip out r
-      → not r ≡ true → Passes s label at to q skip out (record { at = i; quest = here })
-  passes-here {r = r} before d left = record { onward = before; other = λ _ _. d .other (untrue r left) }
+  module _ {i from : ℕ} (before : Onward s label at to q skip out i (startingAt q from)) where
+    pub passes-here : {here : Quest} {r : Bool} → here ≡ startingAt q from → Skips s label i here skip out r → not r ≡ true
+        → Passes s label at to q skip out (record { at = i; from = from })
+    passes-here {r = r} e d left = record { onward = before; other = λ _ _. d .other (untrue r left) }
 
-  pub passes-all : {i : ℕ} {here : Quest} → Onward s label at to q skip out i here → to - 4 < i
-      → Passes s label at to q skip out (record { at = i; quest = here })
-  passes-all before l = record { onward = before; other = λ g h. absurd (omega arith) }
+    pub passes-all : to - 4 < i → Passes s label at to q skip out (record { at = i; from = from })
+    passes-all l = record { onward = before; other = λ g h. absurd (omega arith) }
 
-  pub passes-short : {i : ℕ} {here : Quest} → Onward s label at to q skip out i here → to < 4
-      → Passes s label at to q skip out (record { at = i; quest = here })
-  passes-short before l = record { onward = before; other = λ _ h. absurd (omega arith) }
+  pub passes-short : to < 4 → Passes s label at to q skip out (record { at = at; from = q .from })
+  passes-short l = record { onward = onward-none; other = λ _ h. absurd (omega arith) }
 
-pub ruleset onwards = (fresh-first, fresh-again, onward-none, onward-more, passes-here, passes-all, passes-short)
+pub ruleset onwards = (onward-none, onward-more, passes-here, passes-all, passes-short)
 
 -- Behind a record.
-pub passes-behind : {s label out : List ℕ} {at to skip size : ℕ} {q f : Quest} {r : Passed} → size ≡ numberAt out (at + 2) → f ≡ afresh q
+pub passes-behind : {s label out : List ℕ} {at to skip size : ℕ} {q f : Quest} {r : Passed} → size ≡ numberAt out (at + 2) → f ≡ startingAt q 0
     → Passes s label (at + 4 + size) to f skip out r → Behind s label at to q skip out r
 passes-behind z e p = record { passes = rw (← z, ← e) p }

@@ -20,7 +20,7 @@ use Rattle.positions.specs.Sought.{wanted, sentBy, first}
 use Rattle.moves.specs.Spot.{offersOf}
 use Rattle.moves.specs.Threads.{Threads}
 use Rattle.forms.specs.Visit.{nothingYet, Labelled}
-use Rattle.offers.specs.Seek.{Sight, seen, afresh, firstOf, firstAmong, ShowsSight, Looks, Seeks}
+use Rattle.offers.specs.Seek.{Sight, seen, startingAt, firstOf, firstAmong, ShowsSight, Looks, Seeks}
 use Rattle.offers.specs.Pass.{Passes, Behind}
 use Rattle.offers.specs.declared.pass.Passed.{Passed}
 use Rattle.offers.specs.declared.seek.Sighting.{Sighting}
@@ -67,13 +67,13 @@ true-so false e = absurd (true≢false e)
 
 -- The record at the position skip is passed over, the offers of another are looked at.
 pub among-skipped : (q : Quest) (x : Message) (n skip at : ℕ) (t : Placed) (ts : List Placed) → eqb at skip ≡ true
-    → firstAmong q x n skip at (t ∷ ts) ≡ firstAmong (afresh q) x n skip (at + length (encodeRecord t)) ts
+    → firstAmong q x n skip at (t ∷ ts) ≡ firstAmong (startingAt q 0) x n skip (at + length (encodeRecord t)) ts
 unfolding firstAmong
 among-skipped q x n skip at t ts e = rw (e, firstAmong)
 
 pub among-sought : (q : Quest) (x : Message) (n skip at : ℕ) (t : Placed) (ts : List Placed) → eqb at skip ≡ false
     → firstAmong q x n skip at (t ∷ ts)
-    ≡ firstOf q x at (offersOf t n) (firstAmong (afresh q) x n skip (at + length (encodeRecord t)) ts)
+    ≡ firstOf q x at (offersOf t n) (firstAmong (startingAt q 0) x n skip (at + length (encodeRecord t)) ts)
 unfolding firstAmong
 among-sought q x n skip at t ts e = rw (e, firstAmong)
 
@@ -105,7 +105,7 @@ module _ (s label : List ℕ) (at to : ℕ) (m : List ℕ) (q : Quest) (skip n :
             (shown-found s out₁ r₁ q x at (offersOf t n) (nothingYet n) _ (looked t ts x h kn b d l1 l2 l3 l4) o)
 
     seek-passed : {r : Sighting} {m₁ after : List ℕ} {high : ℕ} → r₁ .going ≡ true → Within 0 high m m₁ → Within to (length out) out out₁
-        → Seeks s label (at + 4 + numberAt out₁ (at + 2)) to m₁ (afresh q) skip n out₁ r after → Seeks s label at to m q skip n out r after
+        → Seeks s label (at + 4 + numberAt out₁ (at + 2)) to m₁ (startingAt q 0) skip n out₁ r after → Seeks s label at to m q skip n out r after
     unfolding firstAmong
     seek-passed {r} {m₁} {after} o wm wo later = record { exact = of }
       where
@@ -118,38 +118,43 @@ module _ (s label : List ℕ) (at to : ℕ) (m : List ℕ) (q : Quest) (skip n :
             let (p, j, rest) = first-thread t ts kept in
             let here : at + length (encodeRecord t) ≡ at + 4 + numberAt out₁ (at + 2) = omega (arith, record-end t ts kept) in
             let later-at = later .exact ts x (rw here at rest) kn b d l1 (omega (arith, wm .long)) (omega (arith, wo .long)) l4 in
-            let others = firstAmong (afresh q) x n skip (at + length (encodeRecord t)) ts in
+            let others = firstAmong (startingAt q 0) x n skip (at + length (encodeRecord t)) ts in
             let passed = shown-going s out₁ r₁ q x at (offersOf t n) (nothingYet n) others (looked t ts x h kn b d l1 l2 l3 l4) o in
             rw (among-sought q x n skip at t ts (ne-eqb at skip differs), passed, here) later-at
 
 -- What is seen from the position i on, as the bytes are now, is what is seen from the position at on, as they were; and the record there is
 -- not the one at the position skip.
-pub record Comes (s label : List ℕ) (to skip n at : ℕ) (q : Quest) (m out : List ℕ) (i : ℕ) (here : Quest) (m₁ out₁ : List ℕ) : Type 0 where
-  pub same : {r : Sighting} {after : List ℕ} → Seeks s label i to m₁ here skip n out₁ r after → Seeks s label at to m q skip n out r after
+pub record Comes (s label : List ℕ) (at to : ℕ) (q : Quest) (skip n : ℕ) (m out : List ℕ) (i from : ℕ) (m₁ out₁ : List ℕ) : Type 0 where
+  pub same : {r : Sighting} {after : List ℕ} → Seeks s label i to m₁ (startingAt q from) skip n out₁ r after
+      → Seeks s label at to m q skip n out r after
   pub other : i < to → 4 ≤ to - i → i ≡ skip → ⊥
 
-module _ {s label m₀ out₀ : List ℕ} {at to skip n : ℕ} {q : Quest} {p : Passed} (pass : Passes s label at to q skip out₀ p) where
-  pub comes-first : Comes s label to skip n (p .at) (p .quest) m₀ out₀ (p .at) (p .quest) m₀ out₀
-  comes-first = record { same = λ v. v; other = pass .other }
+module _ {s label m₀ out₀ : List ℕ} {at to skip n : ℕ} {q : Quest} where
+  pub comes-first : {p : Passed} → Passes s label at to q skip out₀ p → Comes s label at to q skip n m₀ out₀ (p .at) (p .from) m₀ out₀
+  comes-first pass = record { same = λ v. pass .onward .same m₀ n v; other = pass .other }
 
-  module _ {i : ℕ} {here : Quest} {m out : List ℕ} (come : Comes s label to skip n (p .at) (p .quest) m₀ out₀ i here m out) where
+  module _ {i from : ℕ} {m out : List ℕ} (come : Comes s label at to q skip n m₀ out₀ i from m out) where
     pub comes-last : {r : Sighting} → r .done .mark ≡ 0 → to - 4 < i → Seeks s label at to m₀ q skip n out₀ r out
-    comes-last e l = pass .onward .same m₀ n (come .same (seek-short s label i to m here skip n out e (omega arith)))
+    comes-last e l = come .same (seek-short s label i to m (startingAt q from) skip n out e (omega arith))
 
-    module _ (long : 4 ≤ to) (some : i ≤ to - 4) {r₁ : Progress} {out₁ : List ℕ} (v : Looks s label i to m here n out r₁ out₁) where
+    module _ (long : 4 ≤ to) (some : i ≤ to - 4) {here : Quest} (is : here ≡ startingAt q from) {r₁ : Progress} {out₁ : List ℕ}
+        (v : Looks s label i to m here n out r₁ out₁) where
+      looks : Looks s label i to m (startingAt q from) n out r₁ out₁
+      looks = rw is at v
+
       pub comes-found : not (r₁ .going) ≡ true → Seeks s label at to m₀ q skip n out₀ (record { at = i; done = r₁ }) out₁
       comes-found o =
           let differs = come .other (omega arith) (omega arith) in
-          pass .onward .same m₀ n (come .same (seek-found s label i to m here skip n out (omega arith) v differs (untrue (r₁ .going) o)))
+          come .same (seek-found s label i to m (startingAt q from) skip n out (omega arith) looks differs (untrue (r₁ .going) o))
 
       pub comes-further : {high : ℕ} {m₁ : List ℕ} {next : Passed} → not (r₁ .going) ≡ false → Within 0 high m m₁
-          → Within to (length out) out out₁ → Behind s label i to here skip out₁ next
-          → Comes s label to skip n (p .at) (p .quest) m₀ out₀ (next .at) (next .quest) m₁ out₁
+          → Within to (length out) out out₁ → Behind s label i to q skip out₁ next
+          → Comes s label at to q skip n m₀ out₀ (next .at) (next .from) m₁ out₁
       comes-further {m₁ = m₁} o wm wo later =
           let differs = come .other (omega arith) (omega arith) in
           record {
-            same = λ w. come .same (seek-passed s label i to m here skip n out (omega arith) v differs (true-so (r₁ .going) o) wm wo
-                (later .passes .onward .same m₁ n w));
+            same = λ w. come .same (seek-passed s label i to m (startingAt q from) skip n out (omega arith) looks differs (true-so (r₁ .going) o)
+                wm wo (later .passes .onward .same m₁ n w));
             other = later .passes .other;
           }
 

@@ -10,12 +10,12 @@ use Rattle.offers.proofs.seek.seek.Statement.{statement}
 use Rattle.offers.proofs.seek.seek.Tie as tie
 
 abbrev Inv-loop : tie.InvT-loop
-Inv-loop s label at to m₀ skip names out₀ last i₀ here₀ m out i here =
-    Within 0 (length m₀) m₀ m × Within to (length out₀) out₀ out × Comes s label to skip names i₀ here₀ m₀ out₀ i here m out
+Inv-loop s label at to m₀ quest skip names out₀ last i₀ from₀ m out i from =
+    Within 0 (length m₀) m₀ m × Within to (length out₀) out₀ out × Comes s label at to quest skip names m₀ out₀ i from m out
     × (length s ≤ 36864) × (to ≤ length out) × (4 ≤ to)
 
 abbrev μ-loop : tie.MeasureT-loop
-μ-loop s label at to m₀ skip names out₀ last i₀ here₀ m out i here = to - i
+μ-loop s label at to m₀ quest skip names out₀ last i₀ from₀ m out i from = to - i
 
 pub seek-spec : {M : Type 1} → statement M
 seek-spec = tie.close (tie.spec Inv-loop μ-loop
@@ -23,6 +23,7 @@ seek-spec = tie.close (tie.spec Inv-loop μ-loop
     (λ c. (search (needs, unchanged), (search (needs, unchanged), search (needs, seekings))))
     (λ c κs. search needs)
     (λ c. (search (needs, unchanged), search (needs, unchanged), search (needs, seekings), search needs, search needs, search needs))
+    (λ c κs. search needs)
     (λ c κs. search needs)
     (λ c. search needs)
     (λ c. search needs)
