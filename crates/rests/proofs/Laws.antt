@@ -1,5 +1,7 @@
 -- The laws by which the functions meet their contracts. Assumes nothing.
-pub mod Numbers
+pub mod Counting
+pub mod Standing
+pub mod Fixed
 pub mod Rests
 pub mod RestsMoves
 pub mod RestsThread

@@ -1,3 +1,3 @@
-pub mod Numbers
+pub mod Counting
 pub mod Rests
 pub mod Settled

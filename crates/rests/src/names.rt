@@ -1,5 +1,5 @@
 // The private names that the rests of a step take ("Steps").
-use crate::numbers;
+use crate::counting;
 use moves::step::Actor;
 use moves::step::Label;
 use moves::step::Step;
@@ -103,7 +103,7 @@ fn after(
     if state.end - 4 < at {
         return Counted::OverLimit;
     }
-    numbers::count(s, message, at, state.names, m, actor.mark, names, out)
+    counting::count(s, message, at, state.names, m, actor.mark, names, out)
 }
 
 // The copies in which the taker of a silent step is, if that is in the thread of the sender.
@@ -143,9 +143,9 @@ fn after_taker(
         return Counted::OverLimit;
     }
     if mode == 0 {
-        return numbers::count(s, message, at, sender.next, m, taker.mark, names, out);
+        return counting::count(s, message, at, sender.next, m, taker.mark, names, out);
     }
-    numbers::count_in(
+    counting::count_in(
         s,
         message,
         at,

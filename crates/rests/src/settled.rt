@@ -1,5 +1,5 @@
 // What follows an offer of a thread, in its copies if need be, settled ("Steps").
-use crate::numbers;
+use crate::counting;
 use forms::rest;
 use nodes::node;
 use states::progress;
@@ -80,7 +80,7 @@ pub fn behind(
     if ends(s, mark) {
         return done;
     }
-    let offer = numbers::arrive(s, at, opens, m, mark, out);
+    let offer = counting::arrive(s, at, opens, m, mark, out);
     arrived(s, label, offer, m, out, done)
 }
 
@@ -105,6 +105,6 @@ pub fn behind_in(
     if ends(s, mark) {
         return done;
     }
-    let offer = numbers::arrive_in(s, at, opens, m, copy, mark, out);
+    let offer = counting::arrive_in(s, at, opens, m, copy, mark, out);
     arrived(s, label, offer, m, out, done)
 }

@@ -19,7 +19,7 @@ pub enum Counted {
 }
 
 // The private name after those that the process at a position takes, and one more, if the index has their number; 0 otherwise.
-fn fixed(s: &[u8], at: usize, names: usize) -> usize
+pub fn fixed(s: &[u8], at: usize, names: usize) -> usize
     ensures { λ r. ⌜ Fixed (now (s .entry)) at names r ⌝ }
 {
     if bind::LAST_NAME < names {

@@ -10,7 +10,7 @@ use Rattle.threads.specs.declared.task.CopyAt.{CopyAt}
 use Rattle.moves.specs.Spot.{recordAt, offersOf}
 use Rattle.moves.specs.CopyOffers.{ThreadAt, takersAt, butOf}
 use Rattle.moves.specs.Step.{stepOf}
-use Rattle.rests.specs.Numbers.{Counts, CountsIn}
+use Rattle.rests.specs.Counting.{Counts, CountsIn}
 use Rattle.rests.specs.Rests.{onlyOf, thenOf, CountsActor, CountsTaker, stepCopies}
 use Rattle.moves.specs.declared.step.Step as step
 use Rattle.moves.specs.declared.step.Actor.{Actor}

@@ -32,7 +32,7 @@ use Rattle.moves.proofs.Laws.MovesSpots.{Stands, spots-stand}
 use Rattle.moves.proofs.Laws.Opened.{names-later, Acts, acting-all}
 use Rattle.moves.proofs.Laws.CopyMoves.{pairs-flat, silentMoves-parts}
 use Rattle.moves.proofs.Laws.MovesLists.{every-filter}
-use Rattle.rests.proofs.Laws.Numbers.{some-offers}
+use Rattle.rests.proofs.Laws.Counting.{some-offers}
 
 -- An element of a list, with what comes before it and after it.
 module _ {A : Type 0} where

@@ -2,7 +2,7 @@
 use borrow.Author.Needs.{needs}
 use Rattle.nodes.proofs.Laws.Buffer.{unchanged}
 use Rattle.states.proofs.Laws.Progress.{extensions}
-use Rattle.rests.proofs.Laws.Numbers.{frames}
+use Rattle.rests.proofs.Laws.Counting.{frames}
 use Rattle.rests.proofs.Laws.Settled.{arrivals}
 use Rattle.rests.proofs.settled.arrived.Statement.{statement}
 use Rattle.rests.proofs.settled.arrived.Tie as tie

@@ -1,6 +1,8 @@
 // The private names that the rests of a step take ("Steps").
 use states::stored;
+use threads::place;
 use threads::task::CopyAt;
+use walks::count as fixed_names;
 use walks::count::Counted;
 use ways::count;
 use ways::reach;
@@ -8,7 +10,7 @@ use ways::reach::Way;
 ghost use Prim.Native.Nat.{_+_, _≤_};
 ghost use lib.ListN.{length};
 ghost use Rattle.nodes.specs.Buffer.{Within};
-ghost use Rattle.rests.specs.Numbers.{Comes, Enters, ComesIn, Counts, CountsIn};
+ghost use Rattle.rests.specs.Counting.{Comes, Enters, ComesIn, FixedBehind, Counts, CountsIn};
 
 // The most process nodes on one path.
 const NODES: usize = 64;
@@ -99,6 +101,21 @@ pub(crate) fn arrive_in(
     enter(s, thread, m, copy, mark)
 }
 
+// One more than the private name after those of what follows the offer at a mark, settled at a private name, if the index has their number; 0
+// if it has not. Nobody has to go down to the offer then.
+fn fixed(s: &[u8], mark: usize, names: usize) -> usize
+    ensures { λ r. ⌜ FixedBehind (now (s .entry)) mark names r ⌝ }
+{
+    if mark == 0 {
+        return 0;
+    }
+    let at = mark - 1;
+    if s.len() <= at {
+        return 0;
+    }
+    fixed_names::fixed(s, place::rest(s, at), names)
+}
+
 // The private name after those of what follows the offer at a mark of the thread whose record stands at a position, settled at a private
 // name. Copies open at another one.
 pub fn count(
@@ -115,6 +132,10 @@ pub fn count(
     ensures { λ _. ⌜ Within 0 (length (now (m .entry))) (now (m .entry)) (now (m .exit)) ⌝ }
     ensures { λ r. ⌜ Counts (now (s .entry)) (now (label .entry)) at opens (now (m .entry)) mark names (now (out .entry)) r ⌝ }
 {
+    let known = fixed(s, mark, names);
+    if known != 0 {
+        return Counted::Names(known - 1);
+    }
     let offer = arrive(s, at, opens, m, mark, out);
     count::rest(s, label, offer.at, offer.left, m, offer.end, names)
 }
@@ -135,6 +156,10 @@ pub fn count_in(
     ensures { λ _. ⌜ Within 0 (length (now (m .entry))) (now (m .entry)) (now (m .exit)) ⌝ }
     ensures { λ r. ⌜ CountsIn (now (s .entry)) (now (label .entry)) at opens (now (m .entry)) copy mark names (now (out .entry)) r ⌝ }
 {
+    let known = fixed(s, mark, names);
+    if known != 0 {
+        return Counted::Names(known - 1);
+    }
     let offer = arrive_in(s, at, opens, m, copy, mark, out);
     count::rest(s, label, offer.at, offer.left, m, offer.end, names)
 }

@@ -1,8 +1,8 @@
--- `rests::numbers::arrive` meets its contract. Assumes nothing.
+-- `rests::counting::arrive` meets its contract. Assumes nothing.
 use borrow.Author.Needs.{needs}
-use Rattle.rests.proofs.Laws.Numbers.{arriving, frames}
-use Rattle.rests.proofs.numbers.arrive.Statement.{statement}
-use Rattle.rests.proofs.numbers.arrive.Tie as tie
+use Rattle.rests.proofs.Laws.Counting.{arriving, frames}
+use Rattle.rests.proofs.counting.arrive.Statement.{statement}
+use Rattle.rests.proofs.counting.arrive.Tie as tie
 
 pub arrive-spec : {M : Type 1} → statement M
 arrive-spec = tie.close (tie.spec

@@ -1,8 +1,8 @@
--- `rests::numbers::enter` meets its contract. Assumes nothing.
+-- `rests::counting::enter` meets its contract. Assumes nothing.
 use borrow.Author.Needs.{needs}
-use Rattle.rests.proofs.Laws.Numbers.{entering, frames}
-use Rattle.rests.proofs.numbers.enter.Statement.{statement}
-use Rattle.rests.proofs.numbers.enter.Tie as tie
+use Rattle.rests.proofs.Laws.Counting.{entering, frames}
+use Rattle.rests.proofs.counting.enter.Statement.{statement}
+use Rattle.rests.proofs.counting.enter.Tie as tie
 
 pub enter-spec : {M : Type 1} → statement M
 enter-spec = tie.close (tie.spec

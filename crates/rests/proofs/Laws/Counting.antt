@@ -41,7 +41,7 @@ use Rattle.ways.specs.Reach.{offerSite, copySite, Allowed, Arrives, Reaches, Co
 use Rattle.moves.specs.Outcome.{boundAfter}
 use Rattle.moves.specs.CopyOffers.{ThreadAt, copyOffers}
 use Rattle.forms.specs.Visit.{Labelled}
-use Rattle.rests.specs.Numbers.{Comes, Entered, Enters, ComesIn, Counts, CountsIn}
+use Rattle.rests.specs.Counting.{Comes, Entered, Enters, ComesIn, Counts, CountsIn}
 use Rattle.ways.specs.declared.reach.Way.{Way}
 use Rattle.moves.proofs.Laws.LimitsPairs.{but-every}
 use Rattle.forms.proofs.Laws.Visit.{bound-short, names-small}

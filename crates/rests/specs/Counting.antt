@@ -1,12 +1,16 @@
 -- The private names at which the rests of a step are settled, and the next one after them ("Steps"). Assumes nothing.
 use mathlib.Core.Path.{_≡_}
 use mathlib.Core.List.{List, _∷_, _++_}
-use Prim.Native.Nat.{ℕ, _+_, _≤_}
+use Prim.Native.Nat.{ℕ, _+_, _-_, _≤_}
 use Rattle.meaning.specs.Messages.Term.{Message}
+use Rattle.meaning.specs.Bytes.Process.{Prefix, Process}
+use Rattle.meaning.specs.Steps.State.{Bound}
 use Rattle.meaning.specs.Steps.Invariant.{BoundStored}
+use Rattle.states.specs.Place.{ProcessAt}
 use Rattle.states.specs.Record.{Placed, processOf, boundOf}
 use Rattle.walks.specs.Count.{countOf}
 use Rattle.walks.specs.declared.count.Counted.{Counted}
+use Rattle.walks.specs.declared.count.Counted.the-variants.{Names}
 use Rattle.positions.specs.Located.{Acting}
 use Rattle.positions.specs.Sought.{Opened}
 use Rattle.threads.specs.declared.task.CopyAt.{CopyAt}
@@ -44,6 +48,12 @@ pub record ComesIn (s : List ℕ) (at k : ℕ) (m : List ℕ) (c : CopyAt) (mark
   pub exact : (t : Placed) (pre post : List Opened) (w : Opened) (before behind : List Acting) (a : Acting) {to : ℕ} → ThreadAt s out m at k to t
       → copiesOf t k ≡ pre ++ (w ∷ post) → c .place ≡ w .place + 1 → 1 ≤ c .mode → Later c w → (but : ℕ)
       → copyOffers but c w ≡ before ++ (a ∷ behind) → mark ≡ a .place + 1 → (i : ℕ) × Arrives s after r (offerSite a i)
+
+-- Where the answer is not 0, what follows whatever output or input stands at the mark takes names up to one less than that, settled at n under
+-- whatever messages.
+pub record FixedBehind (s : List ℕ) (mark n r : ℕ) : Type 0 where
+  pub exact : (r ≡ 0 → ⊥) → (p : Prefix) (P : Process) (ρ : Bound) {at left scope next : ℕ} → mark ≡ at + 1
+      → ProcessAt s at left scope (Process.act p P) next → Names (r - 1) ≡ countOf P ρ n
 
 -- Whatever offer of the thread has the mark, copies being opened at k: the private names after what follows it, settled at n.
 pub record Counts (s label : List ℕ) (at k : ℕ) (m : List ℕ) (mark n : ℕ) (out : List ℕ) (r : Counted) : Type 0 where

@@ -1,8 +1,8 @@
--- `rests::numbers::arrive_in` meets its contract. Assumes nothing.
+-- `rests::counting::arrive_in` meets its contract. Assumes nothing.
 use borrow.Author.Needs.{needs}
-use Rattle.rests.proofs.Laws.Numbers.{copy-arrives, frames}
-use Rattle.rests.proofs.numbers.arrive_in.Statement.{statement}
-use Rattle.rests.proofs.numbers.arrive_in.Tie as tie
+use Rattle.rests.proofs.Laws.Counting.{copy-arrives, frames}
+use Rattle.rests.proofs.counting.arrive_in.Statement.{statement}
+use Rattle.rests.proofs.counting.arrive_in.Tie as tie
 
 pub arrive-in-spec : {M : Type 1} → statement M
 arrive-in-spec = tie.close (tie.spec

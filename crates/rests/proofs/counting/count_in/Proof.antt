@@ -1,0 +1,16 @@
+-- `rests::counting::count_in` meets its contract. Assumes nothing.
+use borrow.Author.Needs.{needs}
+use Rattle.rests.proofs.Laws.Fixed.{fixed-ones}
+use Rattle.rests.proofs.Laws.Counting.{copy-counted, frames}
+use Rattle.rests.proofs.counting.count_in.Statement.{statement}
+use Rattle.rests.proofs.counting.count_in.Tie as tie
+
+pub count-in-spec : {M : Type 1} → statement M
+count-in-spec = tie.close (tie.spec
+    (λ c κs. search needs)
+    (λ c. search needs)
+    (λ c. (search (needs, frames), search (needs, fixed-ones)))
+    (λ c κs. search needs)
+    (λ c κs. search needs)
+    (λ c. search needs)
+    (λ c. (search (needs, frames), search (needs, copy-counted))))
