@@ -45,23 +45,23 @@ pub record Leaving (s out : List ℕ) (st : code.State) (S : State) (h : Held s 
   pub sent : Stands message 0 (runOf w) (length (runOf w))
 
 -- Whatever state stands there, and whatever step of it this is: the state that it leads to.
-pub record Leaves (quiet : Bool) (s taken message : List ℕ) (st : code.State) (v : step.Step) (m out : List ℕ) (r : Formed) (after : List ℕ) : Type 0 where
+pub record Leaves (stepless : Bool) (s taken message : List ℕ) (st : code.State) (v : step.Step) (m out : List ℕ) (r : Formed) (after : List ℕ) : Type 0 where
   pub exact : (S : State) (h : Held s out st S) (y : Message) (w : Move) → Leaving s out st S h v taken message y w → Leading s st S m out
-      → FormsFor quiet s (st .end) (arrivalOf S (outcome (h .at .placed) (S .next) y w)) r after
+      → FormsFor stepless s (st .end) (arrivalOf S (outcome (h .at .placed) (S .next) y w)) r after
 
 -- The same for a step that is no input.
-pub record Sends (quiet : Bool) (s message : List ℕ) (st : code.State) (v : step.Step) (m out : List ℕ) (r : Formed) (after : List ℕ) : Type 0 where
-  pub exact : (v .label ≡ Input → ⊥) → (taken : List ℕ) → Leaves quiet s taken message st v m out r after
+pub record Sends (stepless : Bool) (s message : List ℕ) (st : code.State) (v : step.Step) (m out : List ℕ) (r : Formed) (after : List ℕ) : Type 0 where
+  pub exact : (v .label ≡ Input → ⊥) → (taken : List ℕ) → Leaves stepless s taken message st v m out r after
 
 -- The answer is the first of these moves, with what it sends and on what, and the state that it leads to; or none.
-abbrev pub ArrivedAt : (quiet : Bool) (s : List ℕ) (st : code.State) (S : State) (ps : List Placed) (y : Message) → Arrived → (after on said : List ℕ) → List Move → Type 0
-ArrivedAt quiet s st S ps y r after on said [] = r ≡ None
-ArrivedAt quiet s st S ps y r after on said (w ∷ others) =
-    (f : Formed) × (r ≡ By (stepOf (st .start) w) f) × FormsFor quiet s (st .end) (arrivalOf S (outcome ps (S .next) y w)) f after × Kept on said w
+abbrev pub ArrivedAt : (stepless : Bool) (s : List ℕ) (st : code.State) (S : State) (ps : List Placed) (y : Message) → Arrived → (after on said : List ℕ) → List Move → Type 0
+ArrivedAt stepless s st S ps y r after on said [] = r ≡ None
+ArrivedAt stepless s st S ps y r after on said (w ∷ others) =
+    (f : Formed) × (r ≡ By (stepOf (st .start) w) f) × FormsFor stepless s (st .end) (arrivalOf S (outcome ps (S .next) y w)) f after × Kept on said w
 
-pub record Arrives (quiet : Bool) (s channel taken : List ℕ) (st : code.State) (from : step.Step) (m out held message : List ℕ) (r : Arrived)
+pub record Arrives (stepless : Bool) (s channel taken : List ℕ) (st : code.State) (from : step.Step) (m out held message : List ℕ) (r : Arrived)
     (after on said : List ℕ) : Type 0 where
   pub exact : (S : State) (x y : Message) (h : Held s out st S) → Labelled channel x → Taken S taken (from .label) y → Leading s st S m out
       → 510 ≤ length held → 510 ≤ length message → {others : List Move}
       → Resuming (from .label) (st .start) (movesOf (from .label) x (S .next) (h .at .placed)) held message from others
-      → ArrivedAt quiet s st S (h .at .placed) y r after on said others
+      → ArrivedAt stepless s st S (h .at .placed) y r after on said others

@@ -24,20 +24,20 @@ fn sent(
     state: State,
     step: Step,
     message: &[u8],
-    quiet: bool,
+    stepless: bool,
     m: &mut [u8],
     out: &mut [u8],
 ) -> Formed
     requires { ⌜ (length (now s) ≤ 36864) × (state .end ≤ length (now out)) ⌝ }
     ensures { λ _. ⌜ Within 0 (length (now (m .entry))) (now (m .entry)) (now (m .exit)) ⌝ }
     ensures { λ _. ⌜ Within (state .end) (length (now (out .entry))) (now (out .entry)) (now (out .exit)) ⌝ }
-    ensures { λ r. ⌜ Sends quiet (now (s .entry)) (now (message .entry)) state step (now (m .entry)) (now (out .entry)) r (now (out .exit)) ⌝ }
+    ensures { λ r. ⌜ Sends stepless (now (s .entry)) (now (message .entry)) state step (now (m .entry)) (now (out .entry)) r (now (out .exit)) ⌝ }
 {
     let size = step.size;
     if message.len() < size {
         return Formed::OverLimit;
     }
-    lead::lead(s, state, step, &message[0..size], quiet, m, out)
+    lead::lead(s, state, step, &message[0..size], stepless, m, out)
 }
 
 // Where a step leads, with the message that is sent at the front of one slice, and the message of an input's label in another.
@@ -47,25 +47,25 @@ fn led(
     step: Step,
     taken: &[u8],
     message: &[u8],
-    quiet: bool,
+    stepless: bool,
     m: &mut [u8],
     out: &mut [u8],
 ) -> Formed
     requires { ⌜ (length (now s) ≤ 36864) × (state .end ≤ length (now out)) ⌝ }
     ensures { λ _. ⌜ Within 0 (length (now (m .entry))) (now (m .entry)) (now (m .exit)) ⌝ }
     ensures { λ _. ⌜ Within (state .end) (length (now (out .entry))) (now (out .entry)) (now (out .exit)) ⌝ }
-    ensures { λ r. ⌜ Leaves quiet (now (s .entry)) (now (taken .entry)) (now (message .entry)) state step (now (m .entry)) (now (out .entry)) r (now (out .exit)) ⌝ }
+    ensures { λ r. ⌜ Leaves stepless (now (s .entry)) (now (taken .entry)) (now (message .entry)) state step (now (m .entry)) (now (out .entry)) r (now (out .exit)) ⌝ }
 {
     let label = step.label;
     match label {
-        Label::Output => sent(s, state, step, message, quiet, m, out),
-        Label::Input => lead::lead(s, state, step, taken, quiet, m, out),
-        Label::Silent => sent(s, state, step, message, quiet, m, out),
+        Label::Output => sent(s, state, step, message, stepless, m, out),
+        Label::Input => lead::lead(s, state, step, taken, stepless, m, out),
+        Label::Silent => sent(s, state, step, message, stepless, m, out),
     }
 }
 
 // The step after one of a state, whose label's channel is given and, for an input, its message; and the state that it leads to, whose threads
-// may be left out where quiet is true. What the step sends is written to the front of a slice, and the channel of a silent step of two threads
+// may be left out where stepless is true. What the step sends is written to the front of a slice, and the channel of a silent step of two threads
 // to the front of another, where those of the step before stand.
 pub fn next(
     s: &[u8],
@@ -73,7 +73,7 @@ pub fn next(
     step: Step,
     channel: &[u8],
     taken: &[u8],
-    quiet: bool,
+    stepless: bool,
     m: &mut [u8],
     out: &mut [u8],
     held: &mut [u8],
@@ -84,12 +84,12 @@ pub fn next(
     ensures { λ _. ⌜ Within (state .end) (length (now (out .entry))) (now (out .entry)) (now (out .exit)) ⌝ }
     ensures { λ _. ⌜ length (now (held .exit)) ≡ length (now (held .entry)) ⌝ }
     ensures { λ _. ⌜ length (now (message .exit)) ≡ length (now (message .entry)) ⌝ }
-    ensures { λ r. ⌜ Arrives quiet (now (s .entry)) (now (channel .entry)) (now (taken .entry)) state step (now (m .entry)) (now (out .entry)) (now (held .entry)) (now (message .entry)) r (now (out .exit)) (now (held .exit)) (now (message .exit)) ⌝ }
+    ensures { λ r. ⌜ Arrives stepless (now (s .entry)) (now (channel .entry)) (now (taken .entry)) state step (now (m .entry)) (now (out .entry)) (now (held .entry)) (now (message .entry)) r (now (out .exit)) (now (held .exit)) (now (message .exit)) ⌝ }
 {
     match next::next(s, state, step, channel, m, out, held, message) {
         Next::Found(found) => Arrived::By(
             found,
-            led(s, state, found, taken, message, quiet, m, out),
+            led(s, state, found, taken, message, stepless, m, out),
         ),
         Next::None => Arrived::None,
     }

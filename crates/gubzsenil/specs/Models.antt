@@ -6,6 +6,7 @@ use Rattle.meaning.specs.Bytes.Process.{Process}
 use Rattle.meaning.specs.Bytes.Formula.{Formula}
 use Rattle.meaning.specs.Bytes.WellFormed.{IsModel, IsFormula}
 use Rattle.meaning.specs.Verdict.{judged}
+use Rattle.labels.specs.Place.{FormulaIn}
 use Rattle.gubzsenil.specs.declared.answer.Answer.{Answer}
 use Rattle.gubzsenil.specs.Answer.{numbers}
 
@@ -13,3 +14,7 @@ use Rattle.gubzsenil.specs.Answer.{numbers}
 pub record JudgesBoth (first second formula : List ℕ) (budget : ℕ) (r : Answer) : Type 0 where
   pub exact : (P Q : Process) (F : Formula) → IsModel first P → IsModel second Q → IsFormula formula F
       → numbers r ≡ judged P Q F budget
+
+-- The same of whatever formula stands in the third slice with its index.
+pub record JudgesIndexed (first second f : List ℕ) (budget : ℕ) (r : Answer) : Type 0 where
+  pub exact : (P Q : Process) (F : Formula) → IsModel first P → IsModel second Q → FormulaIn f F → numbers r ≡ judged P Q F budget

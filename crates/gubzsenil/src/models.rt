@@ -2,6 +2,7 @@
 use crate::answer;
 use crate::answer::Answer;
 use crate::clear::clear;
+use formula_indexes::index;
 use judging::judged::Judged;
 use judging::model;
 ghost use mathlib.Core.Path.{_≡_};
@@ -10,7 +11,7 @@ ghost use Prim.Native.Nat.{_≤_, _-_};
 ghost use lib.ListN.{length, replicate};
 ghost use Rattle.meaning.specs.Verdict.{ranked};
 ghost use Rattle.gubzsenil.specs.Answer.{numbers};
-ghost use Rattle.gubzsenil.specs.Models.{JudgesBoth};
+ghost use Rattle.gubzsenil.specs.Models.{JudgesBoth, JudgesIndexed};
 
 // How many bytes a judging may need for the messages that are bound on the way.
 const BOUND: usize = 10750;
@@ -33,16 +34,16 @@ fn within(budget: u32, left: u32, limited: bool, first: bool, second: bool) -> A
     answer::outcome(0, count)
 }
 
-// The formula judged of each model, the second with what the first leaves of the budget.
-fn both(first: &[u8], second: &[u8], formula: &[u8], out: &mut [u8], budget: u32) -> Answer
+// The formula that stands in the slice f with its index, judged of each model, the second with what the first leaves of the budget.
+fn both(first: &[u8], second: &[u8], f: &[u8], out: &mut [u8], budget: u32) -> Answer
     requires { ⌜ (length (now first) ≤ 4096) × (length (now second) ≤ 4096) × (65536 ≤ length (now out)) ⌝ }
     ensures { λ _. ⌜ length (now (out .exit)) ≡ length (now (out .entry)) ⌝ }
-    ensures { λ r. ⌜ JudgesBoth (now (first .entry)) (now (second .entry)) (now (formula .entry)) budget r ⌝ }
+    ensures { λ r. ⌜ JudgesIndexed (now (first .entry)) (now (second .entry)) (now (f .entry)) budget r ⌝ }
 {
     let mut m = [0u8; BOUND];
-    match model::judge(first, formula, &mut m, out, budget) {
+    match model::judge(first, f, &mut m, out, budget) {
         Judged::Done(truth, limited, left) => {
-            match model::judge(second, formula, &mut m, out, left) {
+            match model::judge(second, f, &mut m, out, left) {
                 Judged::Done(other, more, rest) => {
                     within(budget, rest, limited | more, truth, other)
                 }
@@ -53,7 +54,25 @@ fn both(first: &[u8], second: &[u8], formula: &[u8], out: &mut [u8], budget: u32
     }
 }
 
-// Both models judged in the work bytes, which are then cleared.
+// The same, where the formula is put into a slice with its index.
+fn build(
+    first: &[u8],
+    second: &[u8],
+    formula: &[u8],
+    f: &mut [u8],
+    out: &mut [u8],
+    budget: u32,
+) -> Answer
+    requires { ⌜ (length (now first) ≤ 4096) × (length (now second) ≤ 4096) × (65536 ≤ length (now out)) ⌝ }
+    requires { ⌜ (length (now formula) ≤ 4096) × (length (now f) ≡ 12288) ⌝ }
+    ensures { λ _. ⌜ length (now (out .exit)) ≡ length (now (out .entry)) ⌝ }
+    ensures { λ r. ⌜ JudgesBoth (now (first .entry)) (now (second .entry)) (now (formula .entry)) budget r ⌝ }
+{
+    index::build(formula, f);
+    both(first, second, f, out, budget)
+}
+
+// Both models judged in the work bytes, which are then cleared. The formula's index is built once for both.
 pub(crate) fn judge(
     first: &[u8],
     second: &[u8],
@@ -62,10 +81,19 @@ pub(crate) fn judge(
     budget: u32,
 ) -> Answer
     requires { ⌜ (length (now first) ≤ 4096) × (length (now second) ≤ 4096) × (65536 ≤ length (now work)) ⌝ }
+    requires { ⌜ length (now formula) ≤ 4096 ⌝ }
     ensures { λ _. ⌜ now (work .exit) ≡ replicate (length (now (work .entry))) 0 ⌝ }
     ensures { λ r. ⌜ JudgesBoth (now (first .entry)) (now (second .entry)) (now (formula .entry)) budget r ⌝ }
 {
-    let given = both(first, second, formula, work, budget);
+    let mut indexed: [u8; index::LENGTH] = [0; index::LENGTH];
+    let given = build(
+        first,
+        second,
+        formula,
+        &mut indexed[0..index::LENGTH],
+        work,
+        budget,
+    );
     clear(work);
     given
 }

@@ -78,14 +78,14 @@ pub record Writes (s : List ℕ) (at v w : ℕ) (after : List ℕ) : Type 0 wher
   pub there : Stands after at (row encodeNode (v ∷ w ∷ [])) (at + 4)
   pub frame : Within at (at + 4) s after
 
--- The entry of a position is written, and nothing else.
+-- The entry of a position is written, if there is room for it, and nothing else.
 pub record Notes (s : List ℕ) (at : ℕ) (e : Entry) (after : List ℕ) : Type 0 where
   pub own : Within (entryAt at) (entryAt at + 8) s after
-  pub noted : at < 4096 → Small e → EntryOf after at e
+  pub noted : at < 4096 → Small e → entryAt at + 8 ≤ length s → EntryOf after at e
 
--- Whatever process stands there, the answer is its entry, it is in the index after the call, and entries of other positions are left.
+-- Whatever process stands there that the index has room for, the answer is its entry, it is in the index after the call, and entries of other positions are left.
 pub record Indexes (s : List ℕ) (at left : ℕ) (r : Entry) (after : List ℕ) : Type 0 where
-  pub exact : (P : Process) {end : ℕ} → Stands s at (encodeProcess P) end → processDepth P ≤ left → end ≤ 4096
+  pub exact : (P : Process) {end : ℕ} → Stands s at (encodeProcess P) end → processDepth P ≤ left → end ≤ 4096 → entryAt end ≤ length s
       → (r ≡ entryOf at P) × Indexed after at P × Within (entryAt at) (entryAt end) s after
 
 -- The same of processes in a row.
@@ -99,7 +99,7 @@ DeepRow left (P ∷ Ps) = (processDepth P ≤ left) × DeepRow left Ps
 
 pub record IndexesRow (s : List ℕ) (at left count : ℕ) (r : Entry) (after : List ℕ) : Type 0 where
   pub exact : (Ps : List Process) {end : ℕ} → length Ps ≡ count → count ≤ 2 → Stands s at (row encodeProcess Ps) end → DeepRow left Ps
-      → end ≤ 4096 → (r ≡ rowOf at Ps) × IndexedRow after at Ps × Within (entryAt at) (entryAt end) s after
+      → end ≤ 4096 → entryAt end ≤ length s → (r ≡ rowOf at Ps) × IndexedRow after at Ps × Within (entryAt at) (entryAt end) s after
 
 -- Whatever model the slice is, it stands at the front of the other one, and is in its index.
 pub record Builds (model s : List ℕ) : Type 0 where

@@ -8,13 +8,18 @@ use layouts::layout::Layout;
 use nodes::node;
 use nodes::run;
 ghost use mathlib.Core.Path.{_≡_};
-ghost use Prim.Native.Nat.{_+_, _≤_, _<_};
+ghost use Prim.Native.Nat.{_+_, _*_, _≤_, _<_};
 ghost use lib.ListN.{length};
 ghost use Rattle.nodes.specs.Buffer.{Within};
 ghost use Rattle.indexes.specs.Index.{Says, SaysByte, Ends, Lasts, Fixes, Spreads, Writes, Notes, Indexes, IndexesRow, Builds};
 
 // How many bytes there are with the index.
 pub const LENGTH: usize = 36864;
+
+// How many bytes a short model has at most, and how many there are with its index.
+pub const SHORT: usize = 512;
+
+pub const SHORT_LENGTH: usize = 8192;
 
 // The numbers of an entry that have two bytes, in their order.
 const END: usize = 0;
@@ -112,10 +117,10 @@ fn write(s: &mut [u8], at: usize, first: usize, second: usize)
     node::write(s, at + 2, second);
 }
 
-// Notes the entry of a position. Its last two bytes are written as one number, the lower byte first.
+// Notes the entry of a position, if the slice has room for it. Its last two bytes are written as one number, the lower byte first.
 fn note(s: &mut [u8], at: usize, entry: Entry)
-    requires { ⌜ length (now s) ≡ 36864 ⌝ }
-    ensures { λ _. ⌜ Within 4096 36864 (now (s .entry)) (now (s .exit)) ⌝ }
+    requires { ⌜ (4096 ≤ length (now s)) × (length (now s) ≤ 36864) ⌝ }
+    ensures { λ _. ⌜ Within 4096 (length (now (s .entry))) (now (s .entry)) (now (s .exit)) ⌝ }
     ensures { λ _. ⌜ Notes (now (s .entry)) at entry (now (s .exit)) ⌝ }
 {
     if entry::MODEL <= at {
@@ -125,6 +130,9 @@ fn note(s: &mut [u8], at: usize, entry: Entry)
         return;
     }
     let place = entry::MODEL + 8 * at;
+    if s.len() < place + 8 {
+        return;
+    }
     write(s, place, entry.end, entry.output);
     write(
         s,
@@ -136,8 +144,8 @@ fn note(s: &mut [u8], at: usize, entry: Entry)
 
 // Notes the entries of the process at a position and of all that is in it, with so many nodes left on its path; the answer is its own.
 fn index(s: &mut [u8], at: usize, left: usize) -> Entry
-    requires { ⌜ length (now s) ≡ 36864 ⌝ }
-    ensures { λ _. ⌜ Within 4096 36864 (now (s .entry)) (now (s .exit)) ⌝ }
+    requires { ⌜ (4096 ≤ length (now s)) × (length (now s) ≤ 36864) ⌝ }
+    ensures { λ _. ⌜ Within 4096 (length (now (s .entry))) (now (s .entry)) (now (s .exit)) ⌝ }
     ensures { λ r. ⌜ Indexes (now (s .entry)) at left r (now (s .exit)) ⌝ }
 {
     if left == 0 {
@@ -156,8 +164,8 @@ fn index(s: &mut [u8], at: usize, left: usize) -> Entry
 
 // The same of so many processes in a row, two at most.
 fn row(s: &mut [u8], at: usize, left: usize, count: usize) -> Entry
-    requires { ⌜ length (now s) ≡ 36864 ⌝ }
-    ensures { λ _. ⌜ Within 4096 36864 (now (s .entry)) (now (s .exit)) ⌝ }
+    requires { ⌜ (4096 ≤ length (now s)) × (length (now s) ≤ 36864) ⌝ }
+    ensures { λ _. ⌜ Within 4096 (length (now (s .entry))) (now (s .entry)) (now (s .exit)) ⌝ }
     ensures { λ r. ⌜ IndexesRow (now (s .entry)) at left count r (now (s .exit)) ⌝ }
 {
     if count == 0 {
@@ -172,8 +180,8 @@ fn row(s: &mut [u8], at: usize, left: usize, count: usize) -> Entry
 
 // The model that the first slice is, put into the second one with its index.
 pub fn build(model: &[u8], s: &mut [u8])
-    requires { ⌜ (length (now model) ≤ 4096) × (length (now s) ≡ 36864) ⌝ }
-    ensures { λ _. ⌜ length (now (s .exit)) ≡ 36864 ⌝ }
+    requires { ⌜ (4096 + 8 * length (now model) ≤ length (now s)) × (length (now s) ≤ 36864) ⌝ }
+    ensures { λ _. ⌜ length (now (s .exit)) ≡ length (now (s .entry)) ⌝ }
     ensures { λ _. ⌜ Builds (now (model .entry)) (now (s .exit)) ⌝ }
 {
     run::put(model, s, 0);

@@ -2,7 +2,7 @@
 pub mod Budget
 pub mod Less
 pub mod Meets
-pub mod Quiet
+pub mod Stepless
 pub mod Arrivals
 pub mod Reached
 pub mod Known

@@ -1,5 +1,4 @@
 pub mod Judged
-pub mod Quiet
 pub mod Reached
 pub mod Known
 pub mod Visit

@@ -6,7 +6,7 @@ use crate::stepping;
 use binds::decide;
 use binds::decide::Compared;
 use forms::form::Formed;
-use layouts::ends;
+use formula_indexes::index;
 use nodes::node;
 use states::state::State;
 ghost use mathlib.Core.Path.{_≡_};
@@ -180,7 +180,7 @@ fn conjunction(
         Judged::Done(truth, limited, rest) => second(
             s,
             f,
-            ends::formula(f, at),
+            index::end(f, at),
             depth,
             state,
             m,

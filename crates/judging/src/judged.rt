@@ -1,4 +1,5 @@
 // What judging comes to ("Judging and its count").
+use crate::known::Known;
 use moves::step::Step;
 ghost use mathlib.Core.Path.{_≡_};
 ghost use mathlib.Core.Bool.{_&&_, _||_};
@@ -17,9 +18,9 @@ pub(crate) struct Sum {
     pub left: u32,
 }
 
-// A further step, with what the steps have come to; or the end of them.
+// A further step, with what the steps have come to and what is then known of the body; or the end of them.
 pub(crate) enum Turn {
-    On(Step, Sum),
+    On(Step, Sum, Known),
     End(Judged),
 }
 

@@ -1,58 +1,41 @@
-// What a body without steps comes to wherever a step leads ("Judging and its count"): it is judged once, and counted for each step.
+// What is known of the body of a step formula before it is judged ("Judging and its count"): a body without steps comes to the same wherever a
+// step leads that adds no alias, so it is judged at the first such state, and counted for the others.
 use crate::judge;
 use crate::judged::Judged;
 use forms::form::Formed;
 use moves::step::Label;
-use states::state::State;
 ghost use mathlib.Core.Path.{_≡_};
 ghost use lib.ListN.{length};
 ghost use Rattle.judging.specs.Judged.{Less};
-ghost use Rattle.judging.specs.Known.{Fixed, Confines, Charges, Tells};
-ghost use Rattle.judging.specs.Steps.{Samples};
+ghost use Rattle.judging.specs.Known.{alikeIf, beginning, firstOf, learnt, Confines, Charges, Tells};
 
-// The largest budget of visits.
-const BUDGET: u32 = 4294967295;
-
-// Nothing is known of a body; or its truth, whether a visit meets a limit, and its visits, at whatever state within its limits a step leads to.
+// Nothing; only that it comes to the same at all states within their limits that the steps lead to; or what it comes to there: its truth,
+// whether a visit meets a limit, and its visits.
 pub(crate) enum Known {
     Open,
+    Alike,
     Each(bool, bool, u32),
 }
 
-// The body of a step formula, judged at the state that the steps leave, if that tells what it comes to where they lead.
-pub(crate) fn sample(
-    s: &[u8],
-    f: &[u8],
-    body: usize,
-    depth: usize,
-    label: Label,
-    quiet: bool,
-    state: State,
-    m: &mut [u8],
-    out: &mut [u8],
-) -> Known
-    ensures { λ _. ⌜ length (now (m .exit)) ≡ length (now (m .entry)) ⌝ }
-    ensures { λ _. ⌜ length (now (out .exit)) ≡ length (now (out .entry)) ⌝ }
-    ensures { λ r. ⌜ Samples quiet (now (s .entry)) (now (f .entry)) body depth state label (now (m .entry)) (now (out .entry)) r (now (out .exit)) ⌝ }
-{
-    if fixed(label, quiet) {
-        return match judge::judge(s, f, body, depth, Formed::At(state), m, out, BUDGET) {
-            Judged::Done(truth, limited, more) => Known::Each(truth, limited, BUDGET - more),
-            Judged::Spent => Known::Open,
-        };
-    }
-    Known::Open
-}
-
-// Whether a body looks at nothing that a step of the label changes: it has no steps, and the step adds no alias.
-fn fixed(label: Label, quiet: bool) -> bool
-    ensures { λ r. ⌜ Fixed label quiet r ⌝ }
+// What is known before the first step.
+pub(crate) fn begin(label: Label, stepless: bool) -> Known
+    ensures { λ r. ⌜ r ≡ beginning label stepless ⌝ }
 {
     match label {
-        Label::Output => false,
-        Label::Input => quiet,
-        Label::Silent => quiet,
+        Label::Output => Known::Open,
+        Label::Input => alike(stepless),
+        Label::Silent => alike(stepless),
     }
+}
+
+// A body without steps looks at nothing but aliases.
+fn alike(stepless: bool) -> Known
+    ensures { λ r. ⌜ r ≡ alikeIf stepless ⌝ }
+{
+    if stepless {
+        return Known::Alike;
+    }
+    Known::Open
 }
 
 // What a body comes to at what was formed, as it is known or by judging it.
@@ -72,10 +55,11 @@ pub(crate) fn tell(
     ensures { λ r. ⌜ Less left r ⌝ }
     ensures { λ r. ⌜ Tells known (now (s .entry)) (now (f .entry)) body depth formed (now (m .entry)) (now (out .entry)) left r (now (out .exit)) ⌝ }
 {
-    match confined(known, formed) {
-        Known::Each(truth, limited, visits) => charge(truth, limited, visits, left),
-        Known::Open => judge::judge(s, f, body, depth, formed, m, out, left),
+    let told = confined(known, formed);
+    if let Known::Each(truth, limited, visits) = told {
+        return charge(truth, limited, visits, left);
     }
+    judge::judge(s, f, body, depth, formed, m, out, left)
 }
 
 // What is known at what was formed: nothing if that is over a limit.
@@ -100,4 +84,25 @@ fn charge(truth: bool, limited: bool, visits: u32, left: u32) -> Judged
         return Judged::Spent;
     }
     Judged::Done(truth, limited, left - visits)
+}
+
+// What is known once the body has come to something at what was formed.
+pub(crate) fn learn(known: Known, formed: Formed, truth: bool, limited: bool, visits: u32) -> Known
+    ensures { λ r. ⌜ r ≡ learnt known formed truth limited visits ⌝ }
+{
+    match known {
+        Known::Open => Known::Open,
+        Known::Alike => first(formed, truth, limited, visits),
+        Known::Each(_, _, _) => known,
+    }
+}
+
+// A judgement at a state within its limits is that at each of them.
+fn first(formed: Formed, truth: bool, limited: bool, visits: u32) -> Known
+    ensures { λ r. ⌜ r ≡ firstOf formed truth limited visits ⌝ }
+{
+    match formed {
+        Formed::At(_) => Known::Each(truth, limited, visits),
+        Formed::OverLimit => Known::Alike,
+    }
 }

@@ -3,5 +3,4 @@ mod judge;
 pub mod judged;
 mod known;
 pub mod model;
-mod quiet;
 mod stepping;

@@ -5,10 +5,10 @@ use crate::judged::Sum;
 use crate::judged::Turn;
 use crate::known;
 use crate::known::Known;
-use crate::quiet;
 use arrivals::arrive;
 use arrivals::arrive::Arrived;
 use forms::form::Formed;
+use formula_indexes::index;
 use labels::head;
 use labels::head::Head;
 use labels::head::Headed;
@@ -74,7 +74,7 @@ pub(crate) fn step(
     }
 }
 
-// The body of a step formula, counted at each state that a step of its label leads to, with what is known of it.
+// The body of a step formula, counted at each state that a step of its label leads to.
 fn steps(
     s: &[u8],
     f: &[u8],
@@ -95,8 +95,8 @@ fn steps(
 {
     let body = head.body;
     let label = head.label;
-    let quiet = quiet::quiet(f, body, depth);
-    let known = known::sample(s, f, body, depth, label, quiet, state, m, out);
+    let stepless = index::stepless(f, body);
+    let known = known::begin(label, stepless);
     turns(
         s,
         f,
@@ -105,7 +105,7 @@ fn steps(
         state,
         channel,
         taken,
-        quiet,
+        stepless,
         known,
         m,
         out,
@@ -113,7 +113,8 @@ fn steps(
     )
 }
 
-// All turns, one for each step. What a step sends, and the channel of a silent step of two threads, stay from one step to the next.
+// All turns, one for each step. What is known of the body, what a step sends and the channel of a silent step of two threads stay from one
+// step to the next.
 fn turns(
     s: &[u8],
     f: &[u8],
@@ -122,7 +123,7 @@ fn turns(
     state: State,
     channel: &[u8],
     taken: &[u8],
-    quiet: bool,
+    stepless: bool,
     known: Known,
     m: &mut [u8],
     out: &mut [u8],
@@ -132,7 +133,7 @@ fn turns(
     ensures { λ _. ⌜ length (now (m .exit)) ≡ length (now (m .entry)) ⌝ }
     ensures { λ _. ⌜ length (now (out .exit)) ≡ length (now (out .entry)) ⌝ }
     ensures { λ r. ⌜ Less (left + 1) r ⌝ }
-    ensures { λ r. ⌜ AllTurns quiet known (now (s .entry)) (now (f .entry)) head depth state (now (channel .entry)) (now (taken .entry)) (now (m .entry)) (now (out .entry)) left r (now (out .exit)) ⌝ }
+    ensures { λ r. ⌜ AllTurns stepless known (now (s .entry)) (now (f .entry)) head depth state (now (channel .entry)) (now (taken .entry)) (now (m .entry)) (now (out .entry)) left r (now (out .exit)) ⌝ }
 {
     let label = head.label;
     let mut from = next::before(label, state);
@@ -142,6 +143,7 @@ fn turns(
         left: left,
     };
     let body = head.body;
+    let mut told = known;
     let mut held = [0u8; MESSAGE];
     let mut message = [0u8; MESSAGE];
     loop {
@@ -154,17 +156,18 @@ fn turns(
             from,
             channel,
             taken,
-            quiet,
-            known,
+            stepless,
+            told,
             m,
             out,
             &mut held,
             &mut message,
             sum,
         ) {
-            Turn::On(found, more) => {
+            Turn::On(found, more, learnt) => {
                 from = found;
                 sum = more;
+                told = learnt;
             }
             Turn::End(total) => {
                 return total;
@@ -183,7 +186,7 @@ fn turn(
     from: Step,
     channel: &[u8],
     taken: &[u8],
-    quiet: bool,
+    stepless: bool,
     known: Known,
     m: &mut [u8],
     out: &mut [u8],
@@ -197,9 +200,20 @@ fn turn(
     ensures { λ _. ⌜ length (now (held .exit)) ≡ length (now (held .entry)) ⌝ }
     ensures { λ _. ⌜ length (now (message .exit)) ≡ length (now (message .entry)) ⌝ }
     ensures { λ r. ⌜ Falls (sum .left) r ⌝ }
-    ensures { λ r. ⌜ Turns quiet known (now (s .entry)) (now (f .entry)) body depth state from (now (channel .entry)) (now (taken .entry)) (now (m .entry)) (now (out .entry)) (now (held .entry)) (now (message .entry)) sum r (now (out .exit)) (now (held .exit)) (now (message .exit)) ⌝ }
+    ensures { λ r. ⌜ Turns stepless known (now (s .entry)) (now (f .entry)) body depth state from (now (channel .entry)) (now (taken .entry)) (now (m .entry)) (now (out .entry)) (now (held .entry)) (now (message .entry)) sum r (now (out .exit)) (now (held .exit)) (now (message .exit)) ⌝ }
 {
-    match arrive::next(s, state, from, channel, taken, quiet, m, out, held, message) {
+    match arrive::next(
+        s,
+        state,
+        from,
+        channel,
+        taken,
+        stepless,
+        m,
+        out,
+        held,
+        message,
+    ) {
         Arrived::By(found, formed) => count(s, f, body, depth, known, found, formed, m, out, sum),
         Arrived::None => Turn::End(Judged::Done(sum.truth, sum.limited, sum.left)),
     }
@@ -231,6 +245,7 @@ fn count(
                 limited: judged::either(sum.limited, limited),
                 left: more,
             },
+            known::learn(known, formed, truth, limited, sum.left - more),
         ),
         Judged::Spent => Turn::End(Judged::Spent),
     }

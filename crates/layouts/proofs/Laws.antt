@@ -2,3 +2,4 @@
 pub mod Table
 pub mod Standing
 pub mod Ends
+pub mod Behind

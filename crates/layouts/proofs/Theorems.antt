@@ -6,7 +6,6 @@ use Rattle.meaning.specs.Bytes.Number.{Read, found}
 use Rattle.meaning.specs.Bytes.Standing.{Stands}
 use Rattle.meaning.proofs.Bytes.Reader.{Only, holds, fails}
 use Rattle.meaning.proofs.Bytes.Reading.Term.{term-sound}
-use Rattle.meaning.proofs.Bytes.Reading.Formula.{formula-sound}
 use Rattle.numbers.specs.Answer.{extent}
 use Rattle.layouts.specs.Ends.{EndOf}
 use Rattle.numbers.proofs.Theorems.{never}
@@ -20,7 +19,4 @@ ends-agree (holds {a} {end} p) stands e h = h .same a (stands a end p) ∙ cc
 ends-agree (fails t) stands e h = never (cc)
 
 pub endsAgree : EndsAgree
-endsAgree s bytes left scope at end r = (
-  ends-agree (term-sound bytes left scope at) (λ t e p. p.0),
-  λ steps. ends-agree (formula-sound bytes left steps scope at) (λ F e p. p.0),
-)
+endsAgree s bytes left scope at end r = ends-agree (term-sound bytes left scope at) (λ t e p. p.0)

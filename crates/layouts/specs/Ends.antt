@@ -1,9 +1,9 @@
--- Where trees end that stand at a position of a slice ("Bytes"). Assumes nothing.
+-- Where trees end that stand at a position of a slice: terms, and numbers in them ("Bytes"). Assumes nothing.
 use mathlib.Core.Path.{_≡_}
 use mathlib.Core.List.{List, [], _∷_, _++_}
 use Prim.Native.Nat.{ℕ}
 use lib.ListN.{length}
-use Rattle.meaning.specs.Bytes.Encoding.{encodeNumber, encodeTerm, encodeFormula}
+use Rattle.meaning.specs.Bytes.Encoding.{encodeNumber, encodeTerm}
 use Rattle.meaning.specs.Bytes.Standing.{Stands}
 
 -- The bytes of each, one after the other.
@@ -29,9 +29,6 @@ TermEnd = EndOf encodeTerm
 
 abbrev pub TermsEnd : List ℕ → (at count r : ℕ) → Type 0
 TermsEnd = RowEnd encodeTerm
-
-abbrev pub FormulaEnd : List ℕ → (at r : ℕ) → Type 0
-FormulaEnd = EndOf encodeFormula
 
 abbrev pub NumbersEnd : List ℕ → (at count r : ℕ) → Type 0
 NumbersEnd = RowEnd encodeNumber

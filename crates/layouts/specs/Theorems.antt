@@ -5,13 +5,11 @@ use mathlib.Core.List.{List}
 use Prim.Native.Nat.{ℕ}
 use Rattle.meaning.specs.Bytes.Number.{found}
 use Rattle.meaning.specs.Bytes.WellFormed.{Bytes}
-use Rattle.meaning.specs.Bytes.Reading.{term, formula}
+use Rattle.meaning.specs.Bytes.Reading.{term}
 use Rattle.numbers.specs.Answer.{extent}
-use Rattle.layouts.specs.Ends.{TermEnd, FormulaEnd}
+use Rattle.layouts.specs.Ends.{TermEnd}
 
--- Where a term or a formula is read, its end is the one that the reader found.
+-- Where a term is read, its end is the one that the reader found.
 abbrev pub EndsAgree : Type 0
 EndsAgree =
-    (s : List ℕ) → Bytes s → (left scope at end r : ℕ)
-    → (extent (term left scope s at) ≡ found tt end → TermEnd s at r → r ≡ end)
-    × ((steps : ℕ) → extent (formula left steps scope s at) ≡ found tt end → FormulaEnd s at r → r ≡ end)
+    (s : List ℕ) → Bytes s → (left scope at end r : ℕ) → extent (term left scope s at) ≡ found tt end → TermEnd s at r → r ≡ end

@@ -1,11 +1,10 @@
-// Where terms or a formula end that are known to stand at a position ("Bytes"). A kind comes before its parts,
-// so one pass that counts the trees still to come finds the end. Nothing is validated. Where no such tree stands, the answer is
-// left open, but it is never before the position.
+// Where terms end that are known to stand at a position ("Bytes"). A kind comes before its parts, so one pass that counts the terms
+// still to come finds the end. Nothing is validated. Where no such term stands, the answer is left open, but it is never before the position.
 use crate::layout;
 use crate::layout::Layout;
 use numbers::number;
 ghost use Prim.Native.Nat.{_≤_};
-ghost use Rattle.layouts.specs.Ends.{NumbersEnd, TermEnd, TermsEnd, FormulaEnd};
+ghost use Rattle.layouts.specs.Ends.{NumbersEnd, TermEnd, TermsEnd};
 
 // The end of one number, or of none.
 fn numbers(s: &[u8], at: usize, count: usize) -> usize
@@ -54,23 +53,4 @@ pub fn term(s: &[u8], at: usize) -> usize
     ensures { λ r. ⌜ TermEnd (now (s .entry)) at r ⌝ }
 {
     terms(s, at, 1)
-}
-
-// The end of a formula.
-pub fn formula(s: &[u8], at: usize) -> usize
-    ensures { λ r. ⌜ at ≤ r ⌝ }
-    ensures { λ r. ⌜ FormulaEnd (now (s .entry)) at r ⌝ }
-{
-    let mut i = at;
-    let mut left: usize = 1;
-    while 0 < left {
-        if s.len() <= i {
-            return i;
-        }
-        let k = number::wide(s[i]) % layout::FORMULA_KINDS;
-        let Layout(fields, _, _, parts) = layout::formula(k);
-        i = terms(s, i + 1, fields);
-        left = left - 1 + parts;
-    }
-    i
 }

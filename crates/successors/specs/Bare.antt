@@ -38,8 +38,8 @@ abbrev pub bareOf : Arrival → Arrival
 bareOf A = arrived (A .large) (record { threads = []; aliases = A .state .aliases; next = A .state .next })
 
 -- For those that look at the threads of a state, or do not, only the state itself will do, or also this one if it is within its limits.
-pub data StandsFor : (quiet : Bool) → Arrival → Arrival → Type 0 where
-  itself : {quiet : Bool} {A : Arrival} → StandsFor quiet A A
+pub data StandsFor : (stepless : Bool) → Arrival → Arrival → Type 0 where
+  itself : {stepless : Bool} {A : Arrival} → StandsFor stepless A A
   bare : {A : Arrival} → overArrival A ≡ false → StandsFor true A (bareOf A)
 
 -- What follows the process of an offer, settled, y being the message that goes.

@@ -24,12 +24,12 @@ pub record Leads (s : List ℕ) (st : code.State) (v : step.Step) (message m out
       → Forms s (st .end) (arrivalOf S (outcome (h .at .placed) (S .next) x w)) r after
 
 -- For those that look at its threads, or do not: a state is formed that will do for the one that is reached.
-abbrev pub FormsFor : (quiet : Bool) (s : List ℕ) (begin : ℕ) → Arrival → Formed → (out : List ℕ) → Type 0
-FormsFor quiet s begin A r out = (B : Arrival) × StandsFor quiet A B × Forms s begin B r out
+abbrev pub FormsFor : (stepless : Bool) (s : List ℕ) (begin : ℕ) → Arrival → Formed → (out : List ℕ) → Type 0
+FormsFor stepless s begin A r out = (B : Arrival) × StandsFor stepless A B × Forms s begin B r out
 
-pub record LeadsFor (quiet : Bool) (s : List ℕ) (st : code.State) (v : step.Step) (message m out : List ℕ) (r : Formed) (after : List ℕ) : Type 0 where
+pub record LeadsFor (stepless : Bool) (s : List ℕ) (st : code.State) (v : step.Step) (message m out : List ℕ) (r : Formed) (after : List ℕ) : Type 0 where
   pub exact : (S : State) (h : Held s out st S) (x : Message) (w : Move) → Moving s out st S h v x w message → Leading s st S m out
-      → FormsFor quiet s (st .end) (arrivalOf S (outcome (h .at .placed) (S .next) x w)) r after
+      → FormsFor stepless s (st .end) (arrivalOf S (outcome (h .at .placed) (S .next) x w)) r after
 
 -- The state with these names, if settling its rests meets no limit.
 pub record LeadsAt (s : List ℕ) (st : code.State) (v : step.Step) (last next : ℕ) (message m out : List ℕ) (r : Formed) (after : List ℕ) : Type 0

@@ -104,23 +104,23 @@ fn whole(s: &[u8], state: State, step: Step, message: &[u8], m: &mut [u8], out: 
     }
 }
 
-// The state that a step leads to: the message is the one that is sent, or that of an input's label. Where quiet is true its threads may be
+// The state that a step leads to: the message is the one that is sent, or that of an input's label. Where stepless is true its threads may be
 // left out.
 pub fn lead(
     s: &[u8],
     state: State,
     step: Step,
     message: &[u8],
-    quiet: bool,
+    stepless: bool,
     m: &mut [u8],
     out: &mut [u8],
 ) -> Formed
     requires { ⌜ (length (now s) ≤ 36864) × (state .end ≤ length (now out)) ⌝ }
     ensures { λ _. ⌜ Within 0 (length (now (m .entry))) (now (m .entry)) (now (m .exit)) ⌝ }
     ensures { λ _. ⌜ Within (state .end) (length (now (out .entry))) (now (out .entry)) (now (out .exit)) ⌝ }
-    ensures { λ r. ⌜ LeadsFor quiet (now (s .entry)) state step (now (message .entry)) (now (m .entry)) (now (out .entry)) r (now (out .exit)) ⌝ }
+    ensures { λ r. ⌜ LeadsFor stepless (now (s .entry)) state step (now (message .entry)) (now (m .entry)) (now (out .entry)) r (now (out .exit)) ⌝ }
 {
-    if quiet {
+    if stepless {
         return match bare::form(s, state, step, message, m, out) {
             Formed::At(bare) => Formed::At(bare),
             Formed::OverLimit => whole(s, state, step, message, m, out),

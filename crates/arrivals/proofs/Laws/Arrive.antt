@@ -52,8 +52,8 @@ moving h y w l g = record {
 }
 
 -- Where a step leads.
-module _ {quiet : Bool} {s message m out after : List ℕ} {st : code.State} {v : step.Step} {r : Formed} where
-  pub leaves-input : {taken : List ℕ} → v .label ≡ Input → LeadsFor quiet s st v taken m out r after → Leaves quiet s taken message st v m out r after
+module _ {stepless : Bool} {s message m out after : List ℕ} {st : code.State} {v : step.Step} {r : Formed} where
+  pub leaves-input : {taken : List ℕ} → v .label ≡ Input → LeadsFor stepless s st v taken m out r after → Leaves stepless s taken message st v m out r after
   leaves-input {taken} e d = record {
     exact = λ S h y w l room.
         let f = sending h (v .label) (l .channel) y (l .earlier) (l .others) w (l .listed) in
@@ -62,8 +62,8 @@ module _ {quiet : Bool} {s message m out after : List ℕ} {st : code.State} {v 
   }
 
   -- A message that is sent is at the front of its slice.
-  pub sends-part : {size : ℕ} → LeadsFor quiet s st v (take (size - 0) (drop 0 message)) m out r after → v .size ≡ size
-      → Sends quiet s message st v m out r after
+  pub sends-part : {size : ℕ} → LeadsFor stepless s st v (take (size - 0) (drop 0 message)) m out r after → v .size ≡ size
+      → Sends stepless s message st v m out r after
   sends-part {size} d e = record {
     exact = λ n taken. record {
       exact = λ S h y w l room.
@@ -74,7 +74,7 @@ module _ {quiet : Bool} {s message m out after : List ℕ} {st : code.State} {v 
     };
   }
 
-  pub sends-none : length message < v .size → Sends quiet s message st v m out r after
+  pub sends-none : length message < v .size → Sends stepless s message st v m out r after
   sends-none short = record {
     exact = λ n taken. record {
       exact = λ S h y w l room.
@@ -84,10 +84,10 @@ module _ {quiet : Bool} {s message m out after : List ℕ} {st : code.State} {v 
     };
   }
 
-  pub leaves-output : {taken : List ℕ} → v .label ≡ Output → Sends quiet s message st v m out r after → Leaves quiet s taken message st v m out r after
+  pub leaves-output : {taken : List ℕ} → v .label ≡ Output → Sends stepless s message st v m out r after → Leaves stepless s taken message st v m out r after
   leaves-output {taken} e d = d .exact (λ i. absurd (let z : _≡_ {A = ℕ} 0 1 = cc in omega arith)) taken
 
-  pub leaves-silent : {taken : List ℕ} → v .label ≡ Silent → Sends quiet s message st v m out r after → Leaves quiet s taken message st v m out r after
+  pub leaves-silent : {taken : List ℕ} → v .label ≡ Silent → Sends stepless s message st v m out r after → Leaves stepless s taken message st v m out r after
   leaves-silent {taken} e d = d .exact (λ i. absurd (let z : _≡_ {A = ℕ} 0 1 = cc in omega arith)) taken
 
 pub ruleset leavings = (leaves-input, leaves-output, leaves-silent, sends-part, sends-none)
@@ -105,27 +105,27 @@ searching long o = record { short = o .short; wide = o .wide; room = omega (arit
 -- The next step, and then where it leads.
 module _ {s channel m out held message : List ℕ} {st : code.State} {from : step.Step} {r : Next} {on said : List ℕ}
     (n : Nexts s channel st from m out held message r on said) where
-  pub arrives-none : {quiet : Bool} {taken after : List ℕ} → r ≡ next.None → Arrives quiet s channel taken st from m out held message None after on said
-  arrives-none {quiet} {taken} {after} e = record {
+  pub arrives-none : {stepless : Bool} {taken after : List ℕ} → r ≡ next.None → Arrives stepless s channel taken st from m out held message None after on said
+  arrives-none {stepless} {taken} {after} e = record {
     exact = λ S x y h c t o wide long {others} b. nowhere S h y others (n .exact S x h c (searching long o) wide b);
   }
     where
       nowhere : (S : State) (h : Held s out st S) (y : Message) (others : List Move) → Answered (st .start) on said r others
-          → ArrivedAt quiet s st S (h .at .placed) y None after on said others
+          → ArrivedAt stepless s st S (h .at .placed) y None after on said others
       nowhere S h y [] d = refl
       nowhere S h y (w ∷ others) d = absurd (let z : _≡_ {A = ℕ} 0 1 = cc in omega arith)
 
-  pub arrives-by : {quiet : Bool} {taken m₁ out₁ after : List ℕ} {v : step.Step} {f : Formed} {high high₁ : ℕ} → r ≡ next.Found v
-      → Within 0 high m m₁ → Within (st .end) high₁ out out₁ → Leaves quiet s taken said st v m₁ out₁ f after
-      → Arrives quiet s channel taken st from m out held message (By v f) after on said
+  pub arrives-by : {stepless : Bool} {taken m₁ out₁ after : List ℕ} {v : step.Step} {f : Formed} {high high₁ : ℕ} → r ≡ next.Found v
+      → Within 0 high m m₁ → Within (st .end) high₁ out out₁ → Leaves stepless s taken said st v m₁ out₁ f after
+      → Arrives stepless s channel taken st from m out held message (By v f) after on said
   unfolding held-kept
-  arrives-by {quiet} {taken} {m₁} {out₁} {after} {v} {f} e wm wo d = record {
+  arrives-by {stepless} {taken} {m₁} {out₁} {after} {v} {f} e wm wo d = record {
     exact = λ S x y h c t o wide long {others} b. by S x y h t o others (b .behind) (n .exact S x h c (searching long o) wide b);
   }
     where
       by : (S : State) (x y : Message) (h : Held s out st S) → Taken S taken (from .label) y → Leading s st S m out → (others : List Move)
           → Behind (from .label) (st .start) (movesOf (from .label) x (S .next) (h .at .placed)) from others
-          → Answered (st .start) on said r others → ArrivedAt quiet s st S (h .at .placed) y (By v f) after on said others
+          → Answered (st .start) on said r others → ArrivedAt stepless s st S (h .at .placed) y (By v f) after on said others
       by S x y h t o [] b d = absurd (let z : _≡_ {A = ℕ} 0 1 = cc in omega arith)
       by S x y h t o (w ∷ others) b (g, kept) =
           let same : v ≡ stepOf (st .start) w = cc in

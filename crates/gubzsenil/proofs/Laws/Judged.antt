@@ -8,6 +8,8 @@ use native.Mathlib.Omega.{arith}
 use borrow.Author.Tests.{not-true, not-false, lt-ltb, le-ltb}
 use Rattle.meaning.specs.Judging.{judgeModel}
 use Rattle.meaning.specs.Verdict.{Answer as Numbers, answer, ranked, judged}
+use Rattle.formula_indexes.specs.Index.{Builds}
+use Rattle.labels.proofs.Laws.Formula.{formula-in}
 use Rattle.judging.specs.Judged.{Less}
 use Rattle.judging.specs.Model.{JudgesModel}
 use Rattle.judging.proofs.Laws.Budget.{told-done, told-spent}
@@ -15,7 +17,7 @@ use Rattle.judging.specs.declared.judged.Judged.{Judged}
 use Rattle.judging.specs.declared.judged.Judged.the-variants.{Done, Spent}
 use Rattle.gubzsenil.specs.declared.answer.Answer.{Answer}
 use Rattle.gubzsenil.specs.Answer.{numbers}
-use Rattle.gubzsenil.specs.Models.{JudgesBoth}
+use Rattle.gubzsenil.specs.Models.{JudgesBoth, JudgesIndexed}
 
 -- In their order.
 module _ (limited first second : Bool) (count budget : ℕ) {x : Numbers} where
@@ -39,35 +41,40 @@ pub left-below : {b budget left : ℕ} {truth limited : Bool} {r : Judged} → L
 left-below l f h = omega (arith, l .there _ _ _ f)
 
 -- Of both: the visits are more than the budget, in the first model or in the second, or they are not.
-module _ (s₁ s₂ s₃ : List ℕ) (budget : ℕ) {r : Judged} {a : Answer} (e : JudgesModel s₁ s₃ budget r) where
-  pub first-spent : r ≡ Spent → numbers a ≡ answer 10 budget → JudgesBoth s₁ s₂ s₃ budget a
+module _ (s₁ s₂ f : List ℕ) (budget : ℕ) {r : Judged} {a : Answer} (e : JudgesModel s₁ f budget r) where
+  pub first-spent : r ≡ Spent → numbers a ≡ answer 10 budget → JudgesIndexed s₁ s₂ f budget a
   unfolding judged
-  first-spent f g = record {
+  first-spent d g = record {
     exact = λ P Q F p q m.
-        let more = told-spent budget (judgeModel F P) (e .exact P F p m) f in
+        let more = told-spent budget (judgeModel F P) (e .exact P F p m) d in
         rw (g, lt-ltb budget (judgeModel F P .count + judgeModel F Q .count) (omega arith));
   }
 
-  module _ {truth limited : Bool} {left : ℕ} {r′ : Judged} (f : r ≡ Done truth limited left) (e′ : JudgesModel s₂ s₃ left r′) where
-    pub second-spent : r′ ≡ Spent → numbers a ≡ answer 10 budget → JudgesBoth s₁ s₂ s₃ budget a
+  module _ {truth limited : Bool} {left : ℕ} {r′ : Judged} (d : r ≡ Done truth limited left) (e′ : JudgesModel s₂ f left r′) where
+    pub second-spent : r′ ≡ Spent → numbers a ≡ answer 10 budget → JudgesIndexed s₁ s₂ f budget a
     unfolding judged
-    second-spent f′ g = record {
+    second-spent d′ g = record {
       exact = λ P Q F p q m.
-          let w = told-done budget (judgeModel F P) (e .exact P F p m) f in
-          let more = told-spent left (judgeModel F Q) (e′ .exact Q F q m) f′ in
+          let w = told-done budget (judgeModel F P) (e .exact P F p m) d in
+          let more = told-spent left (judgeModel F Q) (e′ .exact Q F q m) d′ in
           rw (g, lt-ltb budget (judgeModel F P .count + judgeModel F Q .count) (omega (arith, w .count, more)));
     }
 
     pub both-done : {truth′ limited′ : Bool} {rest : ℕ} → r′ ≡ Done truth′ limited′ rest
-        → numbers a ≡ ranked false (limited || limited′) truth truth′ (budget - rest) budget → JudgesBoth s₁ s₂ s₃ budget a
+        → numbers a ≡ ranked false (limited || limited′) truth truth′ (budget - rest) budget → JudgesIndexed s₁ s₂ f budget a
     unfolding judged
-    both-done {rest} f′ g = record {
+    both-done {rest} d′ g = record {
       exact = λ P Q F p q m.
-          let w = told-done budget (judgeModel F P) (e .exact P F p m) f in
-          let w′ = told-done left (judgeModel F Q) (e′ .exact Q F q m) f′ in
+          let w = told-done budget (judgeModel F P) (e .exact P F p m) d in
+          let w′ = told-done left (judgeModel F Q) (e′ .exact Q F q m) d′ in
           let count : judgeModel F P .count + judgeModel F Q .count ≡ budget - rest = omega (arith, w .count, w′ .count) in
           rw (g, w .truth, w .limited, w′ .truth, w′ .limited, count, le-ltb budget (budget - rest) (omega arith));
     }
+
+-- A formula that was put into a slice with its index is the one that is judged.
+pub judges-both : {s₁ s₂ formula f : List ℕ} {budget : ℕ} {a : Answer} → Builds formula f → JudgesIndexed s₁ s₂ f budget a
+    → JudgesBoth s₁ s₂ formula budget a
+judges-both b j = record { exact = λ P Q F p q m. j .exact P Q F p q (formula-in b m) }
 
 pub ruleset ranks = (is-limited, is-false, is-true, is-accepted)
 

@@ -70,6 +70,9 @@ module _ (s₁ s₂ s₃ : List ℕ) (work : ℕ) (slices : Slices s₁ s₂ s�
   pub second-short : length s₂ ≤ 4096
   second-short = well .formed .second .short
 
+  pub formula-short : length s₃ ≤ 4096
+  formula-short = well .formed .third .short
+
   pub work-long : 65536 ≤ work
   work-long = well .formed .long-enough
 
@@ -107,6 +110,6 @@ module _ (s₁ s₂ s₃ work : List ℕ) (budget : ℕ) (slices : Slices s₁ s
         (h .exact (w .P) (w .Q) (w .F) (w .formed .first) (w .formed .second) (w .formed .third))
         (lent workBytes work (w .formed .long-enough) g)
 
-pub ruleset shorts = (first-short, second-short, work-long, lent-long)
+pub ruleset shorts = (first-short, second-short, formula-short, work-long, lent-long)
 
 pub ruleset verdicts = (turned-back, judged-so)

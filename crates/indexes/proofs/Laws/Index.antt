@@ -1,8 +1,8 @@
 -- The index of a model as it is built, from the entries of processes up ("Bytes"). Assumes nothing.
 use mathlib.Core.Path.{_≡_, sym, ap, _∙_}
 use mathlib.Core.List.{List, [], _∷_, append-nil}
-use Prim.Native.Nat.{ℕ, _+_, _-_, _%_, _≤_}
-use native.Mathlib.Nat.{mod-eq-of-lt, zero-add}
+use Prim.Native.Nat.{ℕ, _+_, _*_, _-_, _%_, _≤_}
+use native.Mathlib.Nat.{zero-add}
 use native.Mathlib.Omega.{arith}
 use lib.ListN.{length, getD, length-append}
 use lib.Seq.{paste}
@@ -16,7 +16,7 @@ use Rattle.nodes.proofs.Laws.Buffer.{kept, kept-above, put-stands, one-after, u
 use Rattle.layouts.specs.declared.layout.Layout.{Layout}
 use Rattle.layouts.specs.Layout.{fields, parts, layoutOf, processLayouts}
 use Rattle.layouts.specs.Ends.{row, RowEnd}
-use Rattle.layouts.proofs.Laws.Standing.{first-byte}
+use Rattle.layouts.proofs.Laws.Behind.{behind}
 use Rattle.layouts.proofs.Laws.Ends.{processes}
 use Rattle.layouts.proofs.Laws.Table.{two-at-most}
 use Rattle.indexes.specs.declared.entry.Entry.{Entry}
@@ -65,25 +65,6 @@ depth (let-in M P) = omega arith
 depth (par P Q) = omega arith
 depth (repl P) = omega arith
 
--- What stands behind the kind and the terms of a node.
-record Behind (s : List ℕ) (at k r : ℕ) (l : Layout) (P : Process) (end : ℕ) : Type 0 where
-  kind : k ≡ processes P .kind
-  own : r ≡ at + 1 + length (row encodeTerm (processes P .own))
-  stands : Stands s r (row encodeProcess (processes P .inner)) end
-  many : length (processes P .inner) ≡ parts l
-
-behind : {s : List ℕ} {at b r end : ℕ} {l : Layout} (P : Process) → b ≡ getD s at 0 → l ≡ layoutOf processLayouts (b % 8)
-    → RowEnd encodeTerm s (at + 1) (fields l) r → Stands s at (encodeProcess P) end → Behind s at (b % 8) r l P end
-behind {s} {at} {b} {r} {l = l} P k g o p =
-    let N = processes P in
-    let (first, q, (mid, f, t)) =
-    parts-of (N .kind ∷ []) (row encodeTerm (N .own) ∷ row encodeProcess (N .inner) ∷ []) (rw (N .shape) at p) in
-    let kind : b % 8 ≡ N .kind = rw (k, ← first-byte q) (mod-eq-of-lt (N .small)) in
-    let same : l ≡ layoutOf processLayouts (N .kind) = rw kind at g in
-    let second : first ≡ at + 1 = q .size in
-    let ends : r ≡ mid = o .same (record { trees = N .own; many = N .owned ∙ sym (ap fields same); there = rw second at f }) in
-    record { kind = kind; own = omega (arith, f .size); stands = rw (← ends) at t; many = N .parted ∙ sym (ap parts same) }
-
 -- The entries of positions that a call does not reach.
 low-left : {s t : List ℕ} {low high from to : ℕ} → Within low high s t → entryAt to ≤ low → Leaves s t from to
 low-left {low = low} w h = record { entry = λ q n l g e. kept {low = low} e (omega arith) (w .below) }
@@ -102,26 +83,26 @@ row-kept (P ∷ Ps) at k i =
 -- A node, from its parts.
 module _ {s : List ℕ} {at left : ℕ} where
   pub no-node-left : {r : Entry} → left ≡ 0 → Indexes s at left r s
-  no-node-left e = record { exact = λ P p d h. absurd (omega (arith, depth P)) }
+  no-node-left e = record { exact = λ P p d h room. absurd (omega (arith, depth P)) }
 
   pub nothing-there : {r : Entry} → 4096 ≤ at → Indexes s at left r s
-  nothing-there l = record { exact = λ P p d h. absurd (omega (arith, p .size, bytes P)) }
+  nothing-there l = record { exact = λ P p d h room. absurd (omega (arith, p .size, bytes P)) }
 
   pub node-indexed : {b own : ℕ} {f r : Entry} {l : Layout} {s₁ s₂ : List ℕ} → b ≡ getD s at 0 → l ≡ layoutOf processLayouts (b % 8)
       → RowEnd encodeTerm s (at + 1) (fields l) own → IndexesRow s own (left - 1) (parts l) f s₁ → IsNode (b % 8) at f r → Notes s₁ at r s₂
       → Indexes s at left r s₂
   node-indexed {b} {own} {f} {r} {l} {s₁} {s₂} k g o i x n = record { exact = one }
     where
-      one : (P : Process) {end : ℕ} → Stands s at (encodeProcess P) end → processDepth P ≤ left → end ≤ 4096
+      one : (P : Process) {end : ℕ} → Stands s at (encodeProcess P) end → processDepth P ≤ left → end ≤ 4096 → entryAt end ≤ length s
           → (r ≡ entryOf at P) × Indexed s₂ at P × Within (entryAt at) (entryAt end) s s₂
-      one P {end} p d h =
-          let B = behind P k g o p in
+      one P {end} p d h room =
+          let B = behind (processes P) k g o p in
           let few : parts l ≤ 2 = two-at-most processLayouts tt (b % 8) g in
-          let (parts-are, inner, frame) = i .exact (processes P .inner) (B .many) few (B .stands) (deep-parts P d) h in
+          let (parts-are, inner, frame) = i .exact (processes P .inner) (B .many) few (B .stands) (deep-parts P d) h room in
           let long : at + length (encodeProcess P) ≡ end = sym (p .size) in
           let little : Small f = rw parts-are (small-row (processes P .inner) own (omega (arith, B .many)) (omega (arith, B .stands .size))) in
           let is : r ≡ entryOf at P = x .exact little ∙ rw (parts-are, B .kind) (node-entry P at (B .own)) in
-          let entry : EntryOf s₂ at r = n .noted (omega (arith, bytes P)) (rw is (small-entry P at (omega arith))) in
+          let entry : EntryOf s₂ at r = n .noted (omega (arith, bytes P)) (rw is (small-entry P at (omega arith))) (omega (arith, bytes P, frame .long)) in
           let after : at + 1 ≤ own = omega (arith, B .own) in
           let rows : IndexedRow s₂ own (processes P .inner) = row-kept (processes P .inner) own (high-left (n .own) (omega arith)) inner in (
             is,
@@ -129,12 +110,16 @@ module _ {s : List ℕ} {at left : ℕ} where
             one-after frame (n .own) (omega arith) (omega arith) (omega arith) (omega (arith, bytes P)),
           )
 
+-- Two calls leave the model as it is, if each of them does.
+pub model-left : {s t u : List ℕ} → Within 4096 (length s) s t → Within 4096 (length t) t u → Within 4096 (length s) s u
+model-left w v = one-after w v (omega arith) (omega arith) (omega arith) (omega (arith, w .long))
+
 pub ruleset indexing = (no-node-left, nothing-there, node-indexed)
 
 -- Processes in a row: none, one or two.
 module _ {s : List ℕ} {at left : ℕ} where
   pub row-none : {count : ℕ} {r : Entry} → count ≡ 0 → r ≡ entry at 0 0 1 0 → IndexesRow s at left count r s
-  row-none {count} {r} e z = record { exact = λ Ps m f p d h. only Ps (m ∙ e) p }
+  row-none {count} {r} e z = record { exact = λ Ps m f p d h room. only Ps (m ∙ e) p }
     where
       only : (Ps : List Process) {end : ℕ} → length Ps ≡ 0 → Stands s at (row encodeProcess Ps) end
           → (r ≡ rowOf at Ps) × IndexedRow s at Ps × Within (entryAt at) (entryAt end) s s
@@ -142,32 +127,32 @@ module _ {s : List ℕ} {at left : ℕ} where
       only (P ∷ Ps) m p = absurd (omega arith)
 
   pub row-one : {count : ℕ} {r : Entry} {s₁ : List ℕ} → count ≡ 1 → Indexes s at left r s₁ → IndexesRow s at left count r s₁
-  row-one {count} {r} {s₁} e i = record { exact = λ Ps m f p d h. only Ps (m ∙ e) p d h }
+  row-one {count} {r} {s₁} e i = record { exact = λ Ps m f p d h room. only Ps (m ∙ e) p d h room }
     where
       only : (Ps : List Process) {end : ℕ} → length Ps ≡ 1 → Stands s at (row encodeProcess Ps) end → DeepRow left Ps → end ≤ 4096
-          → (r ≡ rowOf at Ps) × IndexedRow s₁ at Ps × Within (entryAt at) (entryAt end) s s₁
-      only [] m p d h = absurd (omega arith)
-      only (P ∷ []) m p d h = let (is, own, frame) = i .exact P (rw append-nil at p) (d .0) h in (is, (own, tt), frame)
-      only (P ∷ Q ∷ Ps) m p d h = absurd (omega arith)
+          → entryAt end ≤ length s → (r ≡ rowOf at Ps) × IndexedRow s₁ at Ps × Within (entryAt at) (entryAt end) s s₁
+      only [] m p d h room = absurd (omega arith)
+      only (P ∷ []) m p d h room = let (is, own, frame) = i .exact P (rw append-nil at p) (d .0) h room in (is, (own, tt), frame)
+      only (P ∷ Q ∷ Ps) m p d h room = absurd (omega arith)
 
   pub row-two : {count : ℕ} {e f r : Entry} {s₁ s₂ : List ℕ} → (count ≡ 0 → ⊥) → (count ≡ 1 → ⊥) → Indexes s at left e s₁
-      → Within 4096 36864 s s₁ → Indexes s₁ (e .end) left f s₂ → Joins e f r → IndexesRow s at left count r s₂
-  row-two {count} {e} {f} {r} {s₁} {s₂} f₀ f₁ i w j x = record { exact = λ Ps m g p d h. only Ps (m ∙ two g) p d h }
+      → Within 4096 (length s) s s₁ → Indexes s₁ (e .end) left f s₂ → Joins e f r → IndexesRow s at left count r s₂
+  row-two {count} {e} {f} {r} {s₁} {s₂} f₀ f₁ i w j x = record { exact = λ Ps m g p d h room. only Ps (m ∙ two g) p d h room }
     where
       two : count ≤ 2 → count ≡ 2
       two g = omega (arith, f₀, f₁)
 
       only : (Ps : List Process) {end : ℕ} → length Ps ≡ 2 → Stands s at (row encodeProcess Ps) end → DeepRow left Ps → end ≤ 4096
-          → (r ≡ rowOf at Ps) × IndexedRow s₂ at Ps × Within (entryAt at) (entryAt end) s s₂
-      only [] m p d h = absurd (omega arith)
-      only (P ∷ []) m p d h = absurd (omega arith)
-      only (P ∷ Q ∷ []) {end} m p d h =
+          → entryAt end ≤ length s → (r ≡ rowOf at Ps) × IndexedRow s₂ at Ps × Within (entryAt at) (entryAt end) s s₂
+      only [] m p d h room = absurd (omega arith)
+      only (P ∷ []) m p d h room = absurd (omega arith)
+      only (P ∷ Q ∷ []) {end} m p d h room =
           let (last, y, z) = parts-of (encodeProcess P) (encodeProcess Q ∷ []) (rw append-nil at p) in
-          let (is, own, frame) = i .exact P y (d .0) (omega (arith, z .size)) in
+          let (is, own, frame) = i .exact P y (d .0) (omega (arith, z .size)) (omega (arith, z .size)) in
           let mid : e .end ≡ at + length (encodeProcess P) = ap (λ (k : Entry). k .end) is in
           let still : Stands s₁ last (encodeProcess Q) end = kept {low = 4096} z h (w .below) in
           let there : Stands s₁ (e .end) (encodeProcess Q) end = rw (y .size ∙ sym mid) at still in
-          let (is₂, own₂, frame₂) = j .exact Q there (d .1 .0) h in
+          let (is₂, own₂, frame₂) = j .exact Q there (d .1 .0) h (omega (arith, w .long)) in
           let second : f ≡ entryOf (at + length (encodeProcess P)) Q = rw mid at is₂ in
           let small : Small e = rw is (small-entry P at (omega (arith, y .size, z .size))) in
           let small₂ : Small f = rw second (small-entry Q (at + length (encodeProcess P)) (omega (arith, y .size, z .size))) in (
@@ -178,16 +163,17 @@ module _ {s : List ℕ} {at left : ℕ} where
             ),
             one-after frame frame₂ (omega arith) (omega (arith, y .size)) (omega (arith, z .size)) (omega arith),
           )
-      only (P ∷ Q ∷ R ∷ Ps) m p d h = absurd (omega arith)
+      only (P ∷ Q ∷ R ∷ Ps) m p d h room = absurd (omega arith)
 
 pub ruleset rows = (row-none, row-one, row-two)
 
 -- The model put at the front, and its index.
-pub built : (s : List ℕ) {model s₁ s₂ : List ℕ} {r : Entry} → s₁ ≡ paste s 0 model (length model) → length s ≡ 36864 → length model ≤ 4096
-    → Indexes s₁ 0 64 r s₂ → Within 4096 36864 s₁ s₂ → Builds model s₂
-built s {model} {s₁} {s₂} e l h i w = record {
+pub built : (s : List ℕ) {model s₁ s₂ : List ℕ} {r : Entry} → s₁ ≡ paste s 0 model (length model) → length s₁ ≡ length s
+    → 4096 + 8 * length model ≤ length s → length s ≤ 36864 → Indexes s₁ 0 64 r s₂ → Within 4096 (length s₁) s₁ s₂ → Builds model s₂
+built s {model} {s₁} {s₂} e l room h i w = record {
   exact = λ P m.
+      let short : length model ≤ 4096 = omega arith in
       let here : Stands s₁ 0 (encodeProcess P) (length model) = rw (m .encoded) (rw zero-add at (put-stands s 0 model e (omega arith))) in
-      let (ends, own, frame) = i .exact P here (m .nodes) h in
-      record { stands = kept {low = 4096} here h (w .below); indexed = own; inside = h };
+      let (ends, own, frame) = i .exact P here (m .nodes) short (omega arith) in
+      record { stands = kept {low = 4096} here short (w .below); indexed = own; inside = short };
 }

@@ -143,10 +143,13 @@ pub ruleset meanings = (too-low, ends-there, last-output, last-input, fixed, spr
 -- An entry that is not written.
 module _ {s : List ℕ} {at : ℕ} {e : Entry} where
   pub none-behind : 4096 ≤ at → Notes s at e s
-  none-behind h = record { own = unchanged; noted = λ l y. absurd (omega arith) }
+  none-behind h = record { own = unchanged; noted = λ l y g. absurd (omega arith) }
+
+  pub no-room : length s < 4096 + 8 * at + 8 → Notes s at e s
+  no-room h = record { own = unchanged; noted = λ l y g. absurd (omega arith) }
 
   pub none-so-large : {b : Bool} → IsLarge e b → b ≡ true → Notes s at e s
-  none-so-large y f = record { own = unchanged; noted = λ l k. absurd (y .yes f k) }
+  none-so-large y f = record { own = unchanged; noted = λ l k g. absurd (y .yes f k) }
 
 -- The numbers of a small entry fit two bytes, and so do the last two of them, as one number.
 module _ {e : Entry} {b : Bool} (y : IsLarge e b) (t : b ≡ false) where
@@ -200,15 +203,15 @@ module _ {s s₁ s₂ : List ℕ} {at v : ℕ} {e : Entry} (w : Writes s (4096 +
       let end : entryAt at + 4 + 4 ≡ entryAt at + 8 = omega arith in
       record {
         own = one-after (w .frame) (u .frame) (omega arith) (omega arith) (omega arith) (omega arith);
-        noted = λ g k.
+        noted = λ g k room.
             let both = kept {low = entryAt at + 4} (w .there) (omega arith) (u .frame .below) ⨾ rw (end, z) at (u .there) in
             let few : n < 256 = omega (arith, x, short-low (e .names)) in
             let bytes = same-bytes (e .end) (e .output) (e .input) n (e .spread) few in
             rw (← x) (subst (λ xs. Stands s₂ (entryAt at) xs (entryAt at + 8)) bytes both);
       }
 
-pub entry-within : {s s₁ s₂ : List ℕ} {at a b c d : ℕ} → Writes s (4096 + 8 * at) a b s₁ → Writes s₁ (4096 + 8 * at + 4) c d s₂ → at < 4096
-    → Within 4096 36864 s s₂
-entry-within w u h = one-after (w .frame) (u .frame) (omega arith) (omega arith) (omega arith) (omega arith)
+pub entry-within : {s s₁ s₂ : List ℕ} {at a b c d : ℕ} → Writes s (4096 + 8 * at) a b s₁ → Writes s₁ (4096 + 8 * at + 4) c d s₂
+    → at < 4096 → 4096 + 8 * at + 8 ≤ length s → Within 4096 (length s) s s₂
+entry-within w u h room = one-after (w .frame) (u .frame) (omega arith) (omega arith) (omega arith) (omega arith)
 
-pub ruleset entries = (none-behind, none-so-large, entered, entry-within, unchanged)
+pub ruleset entries = (none-behind, no-room, none-so-large, entered, entry-within, unchanged)

@@ -1,8 +1,8 @@
--- A body without steps, judged once and counted for each step ("Judging and its count"). Assumes nothing.
+-- What is known of the body of a step formula: how it is learnt, and counted for each step ("Judging and its count"). Assumes nothing.
 use mathlib.Core.Path.{_≡_, refl, sym, ap, subst, _∙_}
-use mathlib.Core.Bool.{Bool, true, false, true≢false, _||_}
-use mathlib.Core.List.{List, [], _∷_, _++_, append-nil}
-use Prim.Native.Nat.{ℕ, _+_, _-_, _≤_, _<_}
+use mathlib.Core.Bool.{Bool, true, false, _||_}
+use mathlib.Core.List.{List, [], _∷_, _++_}
+use Prim.Native.Nat.{ℕ, _-_, _≤_, _<_}
 use native.Mathlib.Omega.{arith}
 use lib.ListN.{length}
 use Rattle.meaning.specs.Bytes.Formula.{Label, Formula}
@@ -11,43 +11,46 @@ use Rattle.meaning.specs.Bytes.Scope.{bindsLabel}
 use Rattle.meaning.specs.Steps.State.{Bound}
 use Rattle.meaning.specs.Judging.{judge}
 use Rattle.meaning.specs.Judging.Visits.{Arrival}
-use Rattle.nodes.specs.Buffer.{Within}
-use Rattle.nodes.proofs.Laws.Buffer.{unchanged}
 use Rattle.states.specs.declared.state.State as code
 use Rattle.forms.specs.declared.form.Formed.{Formed}
-use Rattle.forms.specs.declared.form.Formed.the-variants.{At}
+use Rattle.forms.specs.Form.{overArrival}
+use Rattle.forms.specs.declared.form.Formed.the-variants.{At, OverLimit}
 use Rattle.moves.specs.declared.step.Step as step
-use Rattle.moves.specs.declared.step.Label as step-label
-use Rattle.moves.specs.declared.step.Label.the-variants.{Input, Silent}
-use Rattle.labels.specs.Place.{FormulaAt}
 use Rattle.labels.specs.Head.{stepLabel}
 use Rattle.judging.specs.Judged.{judgedOf}
 use Rattle.judging.specs.Reached.{Here, Reached}
-use Rattle.judging.specs.Known.{KnownAt, Knows, Fixed, Confines, Charges, Tells}
+use Rattle.judging.specs.Known.{Knows, alikeIf, beginning, firstOf, learnt, Confines, Charges, Tells}
 use Rattle.judging.specs.Visit.{Judges}
-use Rattle.judging.specs.Steps.{Asked, Samples, Counts}
+use Rattle.judging.specs.Steps.{Counts}
 use Rattle.judging.specs.declared.judged.Judged.{Judged}
 use Rattle.judging.specs.declared.judged.Judged.the-variants.{Done, Spent}
 use Rattle.judging.specs.declared.judged.Sum.{Sum}
 use Rattle.judging.specs.declared.judged.Turn.the-variants.{On, End}
 use Rattle.judging.specs.declared.known.Known.{Known}
-use Rattle.judging.specs.declared.known.Known.the-variants.{Open, Each}
+use Rattle.judging.specs.declared.known.Known.the-variants.{Open, Alike, Each}
 use Rattle.judging.proofs.Laws.Budget.{spent-as, done-as, told-done, told-judgement, counted}
-use Rattle.judging.proofs.Laws.Quiet.{quiet-same}
+use Rattle.judging.proofs.Laws.Stepless.{stepless-same}
 use Rattle.judging.proofs.Laws.Reached.{kept-same}
 
--- Whether a body looks at nothing that a step of a label changes.
-module _ {l : step-label.Label} {quiet : Bool} where
-  pub fixed-none : Fixed l quiet false
-  fixed-none = record { plain = λ e. absurd (true≢false (sym e)); bare = λ e. absurd (true≢false (sym e)) }
+-- Nothing is known before the first step, or that a body without steps comes to the same wherever no alias is added.
+module _ {F : Formula} {a : Label} {ρ : Bound} where
+  nothing : Knows Open F a ρ
+  nothing = record {
+    led = λ A new long e. record { same = λ t l n d. absurd (let z : _≡_ {A = ℕ} 0 1 = cc in omega arith) };
+    alike = λ d. absurd (let z : _≡_ {A = ℕ} 0 1 = cc in omega arith);
+  }
 
-  pub fixed-input : l ≡ Input → Fixed l quiet quiet
-  fixed-input e = record { plain = λ y. y; bare = λ y o. let z : _≡_ {A = ℕ} 0 1 = cc in omega arith }
+  alone : bindsLabel a ≡ 0 → (stepless : Bool) → (stepless ≡ true → stepDepth F ≡ 0) → Knows (alikeIf stepless) F a ρ
+  alone none false plain = nothing
+  alone none true plain = record {
+    led = λ A new long e. record { same = λ t l n d. absurd (let z : _≡_ {A = ℕ} 0 1 = cc in omega arith) };
+    alike = λ d. (plain refl, none);
+  }
 
-  pub fixed-silent : l ≡ Silent → Fixed l quiet quiet
-  fixed-silent e = record { plain = λ y. y; bare = λ y o. let z : _≡_ {A = ℕ} 0 1 = cc in omega arith }
-
-pub ruleset fixings = (fixed-none, fixed-input, fixed-silent)
+pub begins : (a : Label) {F : Formula} {ρ : Bound} (stepless : Bool) → (stepless ≡ true → stepDepth F ≡ 0) → Knows (beginning (stepLabel a) stepless) F a ρ
+begins (Label.output C) stepless plain = nothing
+begins (Label.input C M) stepless plain = alone refl stepless plain
+begins Label.silent stepless plain = alone refl stepless plain
 
 -- What is known at what was formed.
 module _ {known : Known} {formed : Formed} where
@@ -91,72 +94,55 @@ module _ {known : Known} {s f m out : List ℕ} {at depth left : ℕ} {formed : 
 
 pub ruleset tellings = (tells-judged, tells-known)
 
--- A body that is judged at the state itself.
-nothing : {F : Formula} {a : Label} {ρ : Bound} → Knows Open F a ρ
-nothing = record {
-  led = λ A new long e. record { same = λ t l n d. absurd (let z : _≡_ {A = ℕ} 0 1 = cc in omega arith) };
-}
+-- What a body without steps has come to at a state is what it comes to at every other one with the same aliases.
+module _ (F : Formula) (a : Label) (ρ : Bound) (left : ℕ) {n : ℕ} {t l : Bool} (B : Arrival) (added : Bound)
+    (long : length added ≡ bindsLabel a) (aliases : B .state .aliases ≡ ρ ++ added) (done : Done t l n ≡ judgedOf left (judge F B)) where
+  same-aliases : (new : Bound) → bindsLabel a ≡ 0 → length new ≡ bindsLabel a → ρ ++ new ≡ B .state .aliases
+  same-aliases new none e = sym (aliases ∙ of added new (long ∙ none) (e ∙ none))
+    where
+      of : (xs ys : Bound) → length xs ≡ 0 → length ys ≡ 0 → ρ ++ xs ≡ ρ ++ ys
+      of [] [] p q = refl
+      of [] (y ∷ ys) p q = absurd (omega arith)
+      of (x ∷ xs) ys p q = absurd (omega arith)
 
-module _ {quiet : Bool} {s f m out : List ℕ} {body depth : ℕ} {st : code.State} {l : step-label.Label} where
-  pub samples-none : Samples quiet s f body depth st l m out Open out
-  samples-none = record { exact = λ q z. (nothing, unchanged) }
+  each : stepDepth F ≡ 0 → bindsLabel a ≡ 0 → overArrival B ≡ false → Knows (Each t l (left - n)) F a ρ
+  each z none free = record {
+    led = λ A new size e. record {
+      same = λ t′ l′ n′ d within.
+          let told = told-done left (judge F B) done refl in
+          let truth : t ≡ t′ = cc in
+          let limited : l ≡ l′ = cc in
+          let visits : left - n ≡ n′ = cc in
+          let is : judge F A ≡ record { truth = t; count = left - n; limited = l } =
+          stepless-same F A B z within free (e ∙ same-aliases new none size) ∙ told-judgement (judge F B) told in
+          rw (truth, visits, limited) at is;
+    };
+    alike = λ d. absurd (let z : _≡_ {A = ℕ} 0 1 = cc in omega arith);
+  }
 
-  module _ {fix : Bool} {left : ℕ} {r : Judged} {after : List ℕ} (fixed : Fixed l quiet fix) (yes : fix ≡ true)
-      (judges : Judges s f body depth (At st) m out left r after) where
-    adds-none : {channel taken : List ℕ} (q : Asked s f body depth st l channel taken m out) → bindsLabel (q .label) ≡ 0
-    adds-none q = of (q .label) (q .same)
-      where
-        of : (a : Label) → l ≡ stepLabel a → bindsLabel a ≡ 0
-        of (Label.output C) e = absurd (fixed .bare yes e)
-        of (Label.input C M) e = refl
-        of Label.silent e = refl
+  pub learns : (s out : List ℕ) (steps : ℕ) (known : Known) (formed : Formed) → Reached s out formed B steps → Knows known F a ρ
+      → Knows (learnt known formed t l (left - n)) F a ρ
+  learns s out steps Open formed reached knows = knows
+  learns s out steps (Each t′ l′ n′) formed reached knows = knows
+  learns s out steps Alike OverLimit reached knows = knows
+  learns s out steps Alike (At st) reached knows = let (z, none) = knows .alike refl in each z none (reached .free)
 
-    sampled : {channel taken : List ℕ} (q : Asked s f body depth st l channel taken m out)
-        → (r ≡ judgedOf left (judge (q .formula) (q .arrival))) × Within (st .end) (length out) out after
-    sampled q =
-        let h = q .here in
-        let n = length (q .arrival .state .aliases) in
-        let many : bindsLabel (q .label) + n ≡ n = omega (arith, adds-none q) in
-        let stands : FormulaAt f body depth (q .steps) n (q .formula) (q .next) =
-        subst (λ (n : ℕ). FormulaAt f body depth (q .steps) n (q .formula) (q .next)) many (q .stands) in
-        let here : Here s out st (q .arrival) (q .steps) =
-        record { free = h .free; held = h .held; early = omega (arith, h .early); few = omega (arith, h .few) } in
-        judges .exact (q .formula) (q .arrival) stands here (q .room)
+-- What is known after a judgement, by what was known and what was formed.
+pub known-first : {formed : Formed} {st : code.State} (t l : Bool) (n : ℕ) → formed ≡ At st → Each t l n ≡ firstOf formed t l n
+known-first t l n e = rw e
 
-    pub samples-spent : r ≡ Spent → Samples quiet s f body depth st l m out Open after
-    samples-spent e = record { exact = λ q z. (nothing, sampled q .1) }
+pub known-alike : {known k : Known} (formed : Formed) (t l : Bool) (n : ℕ) → known ≡ Alike → k ≡ firstOf formed t l n → k ≡ learnt known formed t l n
+known-alike formed t l n e d = rw e d
 
-    pub samples-each : {t li : Bool} {more : ℕ} → r ≡ Done t li more → Samples quiet s f body depth st l m out (Each t li (left - more)) after
-    samples-each {t} {li} {more} e = record {
-      exact = λ q z. (
-        record { led = λ A new long same. of q (z (fixed .plain yes)) A new (long ∙ adds-none q) same },
-        sampled q .1,
-      );
-    }
-      where
-        of : {channel taken : List ℕ} (q : Asked s f body depth st l channel taken m out) → stepDepth (q .formula) ≡ 0 → (A : Arrival) (new : Bound)
-            → length new ≡ 0 → A .state .aliases ≡ q .arrival .state .aliases ++ new → KnownAt (Each t li (left - more)) (q .formula) A
-        of q z A (x ∷ new) long same = absurd (omega arith)
-        of q z A [] long same = record {
-          same = λ t′ l′ n′ d free.
-              let told = told-done left (judge (q .formula) (q .arrival)) (sampled q .0) e in
-              let truth : t ≡ t′ = cc in
-              let limited : li ≡ l′ = cc in
-              let visits : left - more ≡ n′ = cc in
-              let is : judge (q .formula) A ≡ record { truth = t; count = left - more; limited = li } =
-              quiet-same (q .formula) A (q .arrival) z free (q .here .free) (same ∙ append-nil (q .arrival .state .aliases))
-              ∙ told-judgement (judge (q .formula) (q .arrival)) told in
-              rw (truth, visits, limited) at is;
-        }
-
-pub ruleset samplings = (samples-none, samples-spent, samples-each)
+pub ruleset learnings = (known-first, known-alike)
 
 -- A body that is added to what the steps came to.
 module _ {known : Known} {s f m out after : List ℕ} {body depth : ℕ} {g : Formed} {sum : Sum} {j : Judged}
     (tells : Tells known s f body depth g m out (sum .left) j after) (v : step.Step) where
-  pub counts-done : {n : ℕ} {t l a b : Bool} → j ≡ Done t l n → a ≡ (sum .truth || t) → b ≡ (sum .limited || l)
-      → Counts known s f body depth v g m out sum (On v (record { truth = a; limited = b; left = n })) after
-  counts-done e p q = record { judged = j; tells = tells; answer = rw (p, q, e) }
+  pub counts-done : {n : ℕ} {t l a b : Bool} {k : Known} → j ≡ Done t l n → a ≡ (sum .truth || t) → b ≡ (sum .limited || l)
+      → k ≡ learnt known g t l (sum .left - n)
+      → Counts known s f body depth v g m out sum (On v (record { truth = a; limited = b; left = n }) k) after
+  counts-done e p q k = record { judged = j; tells = tells; answer = rw (p, q, k, e) }
 
   pub counts-spent : j ≡ Spent → Counts known s f body depth v g m out sum (End Spent) after
   counts-spent e = record { judged = j; tells = tells; answer = rw e }

@@ -9,6 +9,7 @@ use Rattle.judging.specs.Steps.{Falls}
 use Rattle.judging.specs.declared.judged.Judged.{Judged}
 use Rattle.judging.specs.declared.judged.Judged.the-variants.{Done, Spent}
 use Rattle.judging.specs.declared.judged.Turn.the-variants.{On, End}
+use Rattle.judging.specs.declared.known.Known.{Known}
 
 -- By a visit, and by the parts of a formula.
 pub less-spent : (left : ℕ) → Less left Spent
@@ -48,21 +49,25 @@ pub ruleset lessening = (less-spent, less-here, less-charged, less-first, less-a
 -- By a turn.
 pub falls-none : (left : ℕ) {t l : Bool} → Falls left (End (Done t l left))
 falls-none left = record {
-  goes = λ v sum e. absurd (let z : _≡_ {A = ℕ} 0 1 = cc in omega arith);
+  goes = λ v sum known e. absurd (let z : _≡_ {A = ℕ} 0 1 = cc in omega arith);
   ends = λ t l n e. let same : left ≡ n = cc in omega arith;
 }
 
 pub falls-spent : (left : ℕ) → Falls left (End Spent)
 falls-spent left = record {
-  goes = λ v sum e. absurd (let z : _≡_ {A = ℕ} 0 1 = cc in omega arith);
+  goes = λ v sum known e. absurd (let z : _≡_ {A = ℕ} 0 1 = cc in omega arith);
   ends = λ t l n e. absurd (let z : _≡_ {A = ℕ} 0 1 = cc in omega arith);
 }
 
-pub falls-on : {left n : ℕ} {t l a b : Bool} {j : Judged} (v : step.Step) → Less left j → j ≡ Done t l n
-    → Falls left (On v (record { truth = a; limited = b; left = n }))
-falls-on {left} {n} {t} {l} v less d = record {
-  goes = λ u sum e. let same : n ≡ sum .left = cc in omega (arith, less .there t l n d);
+pub falls-on : {left n : ℕ} {t l a b : Bool} {j : Judged} (v : step.Step) (known : Known) → Less left j → j ≡ Done t l n
+    → Falls left (On v (record { truth = a; limited = b; left = n }) known)
+falls-on {left} {n} {t} {l} v known less d = record {
+  goes = λ u sum k e. let same : n ≡ sum .left = cc in omega (arith, less .there t l n d);
   ends = λ t l n e. absurd (let z : _≡_ {A = ℕ} 0 1 = cc in omega arith);
 }
 
-pub ruleset falling = (falls-none, falls-spent, falls-on)
+-- So what was taken off can be told.
+pub visits-taken : {left n : ℕ} {t l : Bool} {j : Judged} → Less left j → j ≡ Done t l n → n ≤ left
+visits-taken {n = n} {t = t} {l = l} less d = omega (arith, less .there t l n d)
+
+pub ruleset falling = (falls-none, falls-spent, falls-on, visits-taken)

@@ -10,6 +10,8 @@ use Rattle.meaning.specs.Bytes.Nesting.{stepDepth}
 use Rattle.meaning.specs.Judging.{someOf}
 use Rattle.nodes.specs.Buffer.{Within}
 use Rattle.nodes.proofs.Laws.Buffer.{one-after, unchanged}
+use Rattle.formula_indexes.specs.Index.{Stepless}
+use Rattle.formula_indexes.proofs.Laws.Stepless.{stepless-depth}
 use Rattle.states.specs.declared.state.State as code
 use Rattle.moves.specs.Moves.{Move}
 use Rattle.moves.specs.Behind.{before, all}
@@ -17,17 +19,19 @@ use Rattle.moves.specs.declared.step.Step as step
 use Rattle.moves.specs.declared.step.Label as step-label
 use Rattle.successors.proofs.Laws.Leads.{held-kept}
 use Rattle.steps.specs.Kept.{Resuming}
+use Rattle.labels.specs.Head.{stepLabel}
 use Rattle.labels.specs.declared.head.Head as head
+use Rattle.labels.proofs.Laws.Formula.{in-formula}
 use Rattle.judging.specs.Judged.{Less}
-use Rattle.judging.specs.Quiet.{Quiet}
-use Rattle.judging.specs.Known.{Knows}
+use Rattle.judging.specs.Known.{beginning}
 use Rattle.judging.specs.Visit.{Comes}
-use Rattle.judging.specs.Steps.{Asked, Samples, movesAt, judgementsAt, toCome, Onward, TurnTo, Turns, Falls, AllTurns, AllSteps}
+use Rattle.judging.specs.Steps.{Asked, movesAt, judgementsAt, knowsAt, toCome, Onward, TurnTo, Turns, Falls, AllTurns, AllSteps}
 use Rattle.judging.specs.declared.judged.Judged.{Judged}
 use Rattle.judging.specs.declared.judged.Sum.{Sum}
 use Rattle.judging.specs.declared.known.Known.{Known}
 use Rattle.judging.specs.declared.judged.Turn.{Turn}
 use Rattle.judging.specs.declared.judged.Turn.the-variants.{On, End}
+use Rattle.judging.proofs.Laws.Known.{begins}
 use Rattle.judging.proofs.Laws.Reached.{here-kept, room-kept}
 
 -- What is asked holds on where the state stays.
@@ -53,23 +57,22 @@ asked-kept e w q = record {
 abbrev pub fresh : ℕ → Sum
 fresh left = record { truth = false; limited = false; left = left }
 
--- Behind a step, with what has come so far: what is still to come makes up the whole.
-pub record Looping (quiet : Bool) (known : Known) (s f : List ℕ) (body depth : ℕ) (st : code.State) (l : step-label.Label)
-    (channel taken m₀ out₀ : List ℕ) (left : ℕ) (m out held message : List ℕ) (from : step.Step) (sum : Sum) : Type 0 where
+-- Behind a step, with what has come so far and what is known of the body: what is still to come makes up the whole.
+pub record Looping (stepless : Bool) (first : Known) (s f : List ℕ) (body depth : ℕ) (st : code.State) (l : step-label.Label)
+    (channel taken m₀ out₀ : List ℕ) (left : ℕ) (m out held message : List ℕ) (from : step.Step) (sum : Sum) (known : Known) : Type 0 where
   pub long : length m ≡ length m₀
   pub longer : length out ≡ length out₀
   pub holds : length held ≡ 510
   pub carries : length message ≡ 510
   pub less : sum .left ≤ left
-  pub exact : (q : Asked s f body depth st l channel taken m₀ out₀) → (quiet ≡ true → stepDepth (q .formula) ≡ 0)
-      → Knows known (q .formula) (q .label) (q .arrival .state .aliases)
-      → Onward l (st .start) (movesAt q) (judgementsAt q) (toCome (fresh left) (judgementsAt q (movesAt q))) held message from sum
+  pub exact : (q : Asked s f body depth st l channel taken m₀ out₀) → (stepless ≡ true → stepDepth (q .formula) ≡ 0) → knowsAt q first
+      → Onward l (st .start) (movesAt q) (judgementsAt q) (knowsAt q) (toCome (fresh left) (judgementsAt q (movesAt q))) held message from sum known
       × Within (st .end) (length out₀) out₀ out
 
-module _ {quiet : Bool} {known : Known} {s f channel taken m₀ out₀ : List ℕ} {body depth left : ℕ} {st : code.State} where
+module _ {stepless : Bool} {first : Known} {s f channel taken m₀ out₀ : List ℕ} {body depth left : ℕ} {st : code.State} where
   pub looping-starts : {l : step-label.Label} {from : step.Step} {held message : List ℕ} → from ≡ before l (st .start)
       → length held ≡ 510 → length message ≡ 510
-      → Looping quiet known s f body depth st (from .label) channel taken m₀ out₀ left m₀ out₀ held message from (fresh left)
+      → Looping stepless first s f body depth st (from .label) channel taken m₀ out₀ left m₀ out₀ held message from (fresh left) first
   looping-starts {held = held} {message = message} e lh lm = record {
     long = refl;
     longer = refl;
@@ -84,49 +87,48 @@ module _ {quiet : Bool} {known : Known} {s f channel taken m₀ out₀ : List �
             subst (λ (v : step.Step). Resuming (v .label) (st .start) (movesAt q) held message v (movesAt q)) (sym e)
             (record { behind = all; keeping = tt });
         same = refl;
+        knowing = knows;
       },
       unchanged,
     );
   }
 
-  module _ {l : step-label.Label} {m out held message after on said : List ℕ} {from : step.Step} {sum : Sum} {r : Turn}
-      (looping : Looping quiet known s f body depth st l channel taken m₀ out₀ left m out held message from sum)
-      (turns : Turns quiet known s f body depth st from channel taken m out held message sum r after on said) where
+  module _ {l : step-label.Label} {m out held message after on said : List ℕ} {from : step.Step} {sum : Sum} {known : Known} {r : Turn}
+      (looping : Looping stepless first s f body depth st l channel taken m₀ out₀ left m out held message from sum known)
+      (turns : Turns stepless known s f body depth st from channel taken m out held message sum r after on said) where
     -- The turn, for the label of the formula.
-    turned : (l : step-label.Label) → from .label ≡ l → (q : Asked s f body depth st l channel taken m out) (others : List Move)
-        → (quiet ≡ true → stepDepth (q .formula) ≡ 0) → Knows known (q .formula) (q .label) (q .arrival .state .aliases)
+    abbrev Turned : step-label.Label → Type 0
+    Turned l = (q : Asked s f body depth st l channel taken m out) (others : List Move) → (stepless ≡ true → stepDepth (q .formula) ≡ 0) → knowsAt q known
         → Resuming l (st .start) (movesAt q) held message from others
-        → TurnTo l (st .start) (movesAt q) (judgementsAt q) (toCome sum (judgementsAt q others)) on said r × Within (st .end) (length out) out after
+        → TurnTo l (st .start) (movesAt q) (judgementsAt q) (knowsAt q) (toCome sum (judgementsAt q others)) on said r
+        × Within (st .end) (length out) out after
+
+    turned : (l : step-label.Label) → from .label ≡ l → Turned l
     turned l e =
-        subst (λ (l : step-label.Label). (q : Asked s f body depth st l channel taken m out) (others : List Move)
-        → (quiet ≡ true → stepDepth (q .formula) ≡ 0) → Knows known (q .formula) (q .label) (q .arrival .state .aliases)
-        → Resuming l (st .start) (movesAt q) held message from others
-        → TurnTo l (st .start) (movesAt q) (judgementsAt q) (toCome sum (judgementsAt q others)) on said r × Within (st .end) (length out) out after)
-        e (λ q others plain knows.
+        subst Turned e (λ q others plain knows.
         turns .exact q plain knows {others = others} (omega (arith, looping .holds)) (omega (arith, looping .carries)))
 
-    after-turn : (q : Asked s f body depth st l channel taken m₀ out₀) → (quiet ≡ true → stepDepth (q .formula) ≡ 0)
-        → Knows known (q .formula) (q .label) (q .arrival .state .aliases)
-        → TurnTo l (st .start) (movesAt q) (judgementsAt q) (toCome (fresh left) (judgementsAt q (movesAt q))) on said r
+    after-turn : (q : Asked s f body depth st l channel taken m₀ out₀) → (stepless ≡ true → stepDepth (q .formula) ≡ 0) → knowsAt q first
+        → TurnTo l (st .start) (movesAt q) (judgementsAt q) (knowsAt q) (toCome (fresh left) (judgementsAt q (movesAt q))) on said r
         × Within (st .end) (length out₀) out₀ after
     unfolding asked-kept here-kept held-kept
     after-turn q plain knows =
         let (ahead, kept) = looping .exact q plain knows in
-        let (to, later) = turned l (ahead .label) (asked-kept (looping .long) kept q) (ahead .others) plain knows (ahead .resuming) in (
-          subst (λ (x : Judged). TurnTo l (st .start) (movesAt q) (judgementsAt q) x on said r) (ahead .same) to,
+        let (to, later) = turned l (ahead .label) (asked-kept (looping .long) kept q) (ahead .others) plain (ahead .knowing) (ahead .resuming) in (
+          subst (λ (x : Judged). TurnTo l (st .start) (movesAt q) (judgementsAt q) (knowsAt q) x on said r) (ahead .same) to,
           one-after kept later (omega arith) (omega arith) (omega arith) (omega (arith, looping .longer)),
         )
 
-    pub looping-on : {m₁ : List ℕ} {v : step.Step} {more : Sum} → r ≡ On v more → length m₁ ≡ length m → length after ≡ length out
+    pub looping-on : {m₁ : List ℕ} {v : step.Step} {more : Sum} {told : Known} → r ≡ On v more told → length m₁ ≡ length m → length after ≡ length out
         → length on ≡ length held → length said ≡ length message → Falls (sum .left) r
-        → Looping quiet known s f body depth st l channel taken m₀ out₀ left m₁ after on said v more
-    looping-on {v = v} {more = more} e lm lo lh ls falls = record {
+        → Looping stepless first s f body depth st l channel taken m₀ out₀ left m₁ after on said v more told
+    looping-on {v = v} {more = more} {told = told} e lm lo lh ls falls = record {
       long = lm ∙ looping .long;
       longer = lo ∙ looping .longer;
       holds = lh ∙ looping .holds;
       carries = ls ∙ looping .carries;
-      less = omega (arith, falls .goes v more e, looping .less);
-      exact = λ q plain knows. let (to, kept) = after-turn q plain knows in (to .goes v more e, kept);
+      less = omega (arith, falls .goes v more told e, looping .less);
+      exact = λ q plain knows. let (to, kept) = after-turn q plain knows in (to .goes v more told e, kept);
     }
 
     pub looping-less : {j : Judged} → r ≡ End j → Falls (sum .left) r → Less (left + 1) j
@@ -135,38 +137,34 @@ module _ {quiet : Bool} {known : Known} {s f channel taken m₀ out₀ : List �
     }
 
 -- The label is that of the head.
-pub looping-ends : {quiet : Bool} {known : Known} {s f channel taken m₀ out₀ m out held message after on said : List ℕ} {head : head.Head}
-    {depth left : ℕ} {st : code.State} {first from : step.Step} {sum : Sum} {r : Turn} {j : Judged} → first ≡ before (head .label) (st .start)
-    → Looping quiet known s f (head .body) depth st (first .label) channel taken m₀ out₀ left m out held message from sum
-    → Turns quiet known s f (head .body) depth st from channel taken m out held message sum r after on said → r ≡ End j
-    → AllTurns quiet known s f head depth st channel taken m₀ out₀ left j after
+pub looping-ends : {stepless : Bool} {first known : Known} {s f channel taken m₀ out₀ m out held message after on said : List ℕ} {head : head.Head}
+    {depth left : ℕ} {st : code.State} {origin from : step.Step} {sum : Sum} {r : Turn} {j : Judged} → origin ≡ before (head .label) (st .start)
+    → Looping stepless first s f (head .body) depth st (origin .label) channel taken m₀ out₀ left m out held message from sum known
+    → Turns stepless known s f (head .body) depth st from channel taken m out held message sum r after on said → r ≡ End j
+    → AllTurns stepless first s f head depth st channel taken m₀ out₀ left j after
 unfolding toCome
-looping-ends {quiet} {known} {s} {f} {channel} {taken} {m₀} {out₀} {after = after} {head = head} {depth} {left} {st} {first = first} {j = j} b looping
+looping-ends {stepless} {first} {known} {s} {f} {channel} {taken} {m₀} {out₀} {after = after} {head = head} {depth} {left} {st} {origin = origin} {j = j} b looping
     turns e = record {
       exact = subst (λ (l : step-label.Label). (q : Asked s f (head .body) depth st l channel taken m₀ out₀)
-          → (quiet ≡ true → stepDepth (q .formula) ≡ 0) → Knows known (q .formula) (q .label) (q .arrival .state .aliases)
+          → (stepless ≡ true → stepDepth (q .formula) ≡ 0) → knowsAt q first
           → Comes st out₀ left (someOf (judgementsAt q (movesAt q))) j after) (ap (λ v. v .label) b)
           (λ q plain knows. let (to, kept) = after-turn looping turns q plain knows in record { answer = to .ends j e; kept = kept });
     }
 
--- What is known of the body is found before them.
-pub steps-known : {quiet : Bool} {known : Known} {s f channel taken m m₁ out out₁ after : List ℕ} {head : head.Head} {depth left : ℕ}
-    {st : code.State} {j : Judged} → Quiet f (head .body) depth quiet → Samples quiet s f (head .body) depth st (head .label) m out known out₁ → length m₁ ≡ length m
-    → AllTurns quiet known s f head depth st channel taken m₁ out₁ left j after → AllSteps s f head depth st channel taken m out left j after
-unfolding asked-kept here-kept held-kept
-steps-known {quiet} is-quiet samples long turns = record {
+-- What is known of the body before them.
+pub steps-known : {stepless : Bool} {known : Known} {s f channel taken m out after : List ℕ} {head : head.Head} {depth left : ℕ}
+    {st : code.State} {j : Judged} → Stepless f (head .body) stepless → known ≡ beginning (head .label) stepless
+    → AllTurns stepless known s f head depth st channel taken m out left j after → AllSteps s f head depth st channel taken m out left j after
+steps-known {stepless} {known} told begun turns = record {
   exact = λ q.
-      let plain : quiet ≡ true → stepDepth (q .formula) ≡ 0 = λ z. is-quiet .none z (q .formula) (q .stands) in
-      let (knows, sampled) = samples .exact q plain in
-      let comes = turns .exact (asked-kept long sampled q) plain knows in
-      record {
-        answer = comes .answer;
-        kept = one-after sampled (comes .kept) (omega arith) (omega arith) (omega arith) (omega (arith, sampled .long));
-      };
+      let plain : stepless ≡ true → stepDepth (q .formula) ≡ 0 =
+      λ z. stepless-depth (q .formula) (sym (told .same (q .formula) (in-formula (q .stands))) ∙ z) in
+      let is : known ≡ beginning (stepLabel (q .label)) stepless = begun ∙ ap (λ l. beginning l stepless) (q .same) in
+      turns .exact q plain (subst (knowsAt q) (sym is) (begins (q .label) stepless plain));
 }
 
 -- What is left of the budget falls.
-pub looping-falls : {left : ℕ} {r : Turn} {v : step.Step} {more : Sum} → Falls left r → r ≡ On v more → more .left < left
-looping-falls {v = v} {more = more} falls e = falls .goes v more e
+pub looping-falls : {left : ℕ} {r : Turn} {v : step.Step} {more : Sum} {known : Known} → Falls left r → r ≡ On v more known → more .left < left
+looping-falls {v = v} {more = more} {known = known} falls e = falls .goes v more known e
 
 pub ruleset loopings = (looping-starts, looping-on, looping-less, looping-ends)

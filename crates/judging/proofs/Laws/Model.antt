@@ -12,7 +12,6 @@ use Rattle.forms.specs.Form.{Starts}
 use Rattle.forms.proofs.Laws.Form.{model-in}
 use Rattle.forms.specs.declared.form.Formed.{Formed}
 use Rattle.moves.proofs.Laws.Start.{startHeld}
-use Rattle.labels.proofs.Laws.Formula.{whole-formula}
 use Rattle.judging.specs.Reached.{Room}
 use Rattle.judging.specs.Visit.{Judges}
 use Rattle.judging.specs.Model.{JudgesModel, JudgesIndexed}
@@ -28,7 +27,7 @@ judges-indexed {s = s} {m₁ = m₁} {out₁ = out₁} starts wm wo short wide l
   exact = λ P F model formula.
       let (there, above) = reached (starts .exact P model) (λ free st at. startHeld s out₁ P st free at) 16 (omega arith) (omega arith) in
       let room : Room s m₁ out₁ = record { short = short; wide = omega (arith, wm .long); long = omega (arith, wo .long) } in
-      judges .exact F (startArrival P) (whole-formula formula) there room .0;
+      judges .exact F (startArrival P) (formula .at) there room .0;
 }
 
 -- A model that was put into a slice with its index is the one that is judged.

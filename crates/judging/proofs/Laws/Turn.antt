@@ -51,8 +51,8 @@ use Rattle.arrivals.specs.declared.arrive.Arrived.the-variants.{By, None}
 use Rattle.arrivals.proofs.Laws.Sending.{added}
 use Rattle.arrivals.proofs.Laws.Arrive.{listed, sending}
 use Rattle.judging.specs.Judged.{judgedOf}
-use Rattle.judging.specs.Known.{Knows, Tells}
-use Rattle.judging.specs.Steps.{Asked, movesAt, judgementsAt, toCome, TurnTo, turnOf, Counts, Turns}
+use Rattle.judging.specs.Known.{learnt, Tells}
+use Rattle.judging.specs.Steps.{Asked, movesAt, judgementsAt, knowsAt, toCome, TurnTo, turnOf, Counts, Turns}
 use Rattle.judging.specs.declared.judged.Judged.{Judged}
 use Rattle.judging.specs.declared.judged.Judged.the-variants.{Done, Spent}
 use Rattle.judging.specs.declared.judged.Sum.{Sum}
@@ -60,7 +60,8 @@ use Rattle.judging.specs.declared.known.Known.{Known}
 use Rattle.judging.specs.declared.judged.Turn.{Turn}
 use Rattle.judging.specs.declared.judged.Turn.the-variants.{End}
 use Rattle.judging.proofs.Laws.Budget.{none-to-come, spent-to-come, more-to-come}
-use Rattle.judging.proofs.Laws.Quiet.{quiet-judge}
+use Rattle.judging.proofs.Laws.Known.{learns}
+use Rattle.judging.proofs.Laws.Stepless.{stepless-judge}
 use Rattle.judging.proofs.Laws.Reached.{reached, kept-below, room-kept}
 
 -- A label adds an alias where its step does.
@@ -130,21 +131,22 @@ module _ {s out out₁ : List ℕ} {st : code.State} {S : State} (h : Held s out
     holding : overArrival B ≡ false → (st′ : code.State) → StateAt s out₁ st′ (B .state) → Held s out₁ st′ (B .state)
     judged : judge F B ≡ judge F (arrivalOf S o)
 
-  serves : (F : Formula) (quiet : Bool) (B : Arrival) → (quiet ≡ true → stepDepth F ≡ 0) → StandsFor quiet (arrivalOf S o) B → Serves F B
-  serves F quiet B z itself = record { aliases = refl; holding = holds; judged = refl }
-  serves F quiet B z (bare free) = record {
+  serves : (F : Formula) (stepless : Bool) (B : Arrival) → (stepless ≡ true → stepDepth F ≡ 0) → StandsFor stepless (arrivalOf S o) B → Serves F B
+  serves F stepless B z itself = record { aliases = refl; holding = holds; judged = refl }
+  serves F stepless B z (bare free) = record {
     aliases = refl;
     holding = λ e st′ a. held a (neither (o .large) _ e .1) none none (goes .aliases (h .stored)) (goes .small (h .small));
-    judged = sym (quiet-judge F (arrivalOf S o) (z refl) free);
+    judged = sym (stepless-judge F (arrivalOf S o) (z refl) free);
   }
 
 -- The body judged at the state that a move leads to.
 module _ {s f channel taken m m₁ out out₁ after : List ℕ} {body depth : ℕ} {st : code.State} {l : step-label.Label} {left high : ℕ} {g : Formed} {j : Judged}
-    {quiet : Bool} (wm : Within 0 high m m₁) (wo : Within (st .end) (length out) out out₁)
+    {stepless : Bool} (wm : Within 0 high m m₁) (wo : Within (st .end) (length out) out out₁)
     {known : Known} (tells : Tells known s f body depth g m₁ out₁ left j after) (q : Asked s f body depth st l channel taken m out)
-    (plain : quiet ≡ true → stepDepth (q .formula) ≡ 0) (knows : Knows known (q .formula) (q .label) (here q .aliases)) where
-  visited : (earlier others : List Move) (w : Move) → movesAt q ≡ earlier ++ (w ∷ others) → FormsFor quiet s (st .end) (led q w) g out₁
+    (plain : stepless ≡ true → stepDepth (q .formula) ≡ 0) (knows : knowsAt q known) where
+  visited : (earlier others : List Move) (w : Move) → movesAt q ≡ earlier ++ (w ∷ others) → FormsFor stepless s (st .end) (led q w) g out₁
       → (j ≡ judgedOf left (judge (q .formula) (led q w))) × Within (st .end) (length out) out after
+      × ((t l : Bool) (n : ℕ) → j ≡ Done t l n → knowsAt q (learnt known g t l (left - n)))
   visited earlier others w e (B, stands-for, forms) =
       let h = q .here .held in
       let o = outcome (h .at .placed) (here q .next) (takes q) w in
@@ -154,7 +156,7 @@ module _ {s f channel taken m m₁ out out₁ after : List ℕ} {body depth : �
       earlier others w e in
       let goes = every-move (here q .next) (h .at .placed) (judgedOn (h .at .placed) (here q) (takes q) (h .judged) (taking q .stored) (small q)) l
       channelled earlier others w e in
-      let served = serves h goes (λ free st′ at. holds free out₁ st′ at) (q .formula) quiet B plain stands-for in
+      let served = serves h goes (λ free st′ at. holds free out₁ st′ at) (q .formula) stepless B plain stands-for in
       let alias : length (o .alias) ≡ bindsLabel (q .label) = sends .alias (h .at .placed) (here q .next) ∙ rw (q .same) (added-by (q .label)) in
       let many : bindsLabel (q .label) + length (here q .aliases) ≡ length (B .state .aliases) =
       omega (arith, length-append (here q .aliases) (o .alias), ap length (served .aliases)) in
@@ -166,6 +168,7 @@ module _ {s f channel taken m m₁ out out₁ after : List ℕ} {body depth : �
       let later = kept-below g above (omega (arith, wo .long, h .at .records .size, q .here .early, q .room .long)) kept in (
         answer ∙ ap (judgedOf left) (served .judged),
         one-after wo later (omega arith) (omega arith) (omega arith) (omega (arith, wo .long)),
+        λ t l n done. learns (q .formula) (q .label) (here q .aliases) left B (o .alias) alias (served .aliases) (sym done ∙ answer) s out₁ (q .steps) known g there knows,
       )
     where
       bound : (a : Label) → bindsLabel a ≤ 1
@@ -174,26 +177,26 @@ module _ {s f channel taken m m₁ out out₁ after : List ℕ} {body depth : �
       bound Label.silent = omega arith
 
 -- What a turn comes to.
-module _ {quiet : Bool} {s channel taken m out out₁ held message on said : List ℕ} {st : code.State} {from : step.Step} {r : Arrived}
-    (arrives : Arrives quiet s channel taken st from m out held message r out₁ on said) (wo : Within (st .end) (length out) out out₁) where
+module _ {stepless : Bool} {s channel taken m out out₁ held message on said : List ℕ} {st : code.State} {from : step.Step} {r : Arrived}
+    (arrives : Arrives stepless s channel taken st from m out held message r out₁ on said) (wo : Within (st .end) (length out) out out₁) where
   found : {f : List ℕ} {body depth : ℕ} (q : Asked s f body depth st (from .label) channel taken m out) {others : List Move}
       → 510 ≤ length held → 510 ≤ length message → Resuming (from .label) (st .start) (movesAt q) held message from others
-      → ArrivedAt quiet s st (here q) (q .here .held .at .placed) (takes q) r out₁ on said others
+      → ArrivedAt stepless s st (here q) (q .here .held .at .placed) (takes q) r out₁ on said others
   found q wide long b =
       arrives .exact (here q) (channelOf (here q .aliases) (q .label)) (takes q) (q .here .held) (q .channelled) (taking q) (leading q) wide long b
 
   pub turn-none : (known : Known) (f : List ℕ) (body depth : ℕ) (sum : Sum) → r ≡ None
-      → Turns quiet known s f body depth st from channel taken m out held message sum (End (Done (sum .truth) (sum .limited) (sum .left)))
+      → Turns stepless known s f body depth st from channel taken m out held message sum (End (Done (sum .truth) (sum .limited) (sum .left)))
       out₁ on said
   turn-none known f body depth sum e = record { exact = λ q z knows {others} wide long b. (of q others (found q wide long b), wo) }
     where
       of : (q : Asked s f body depth st (from .label) channel taken m out) (others : List Move)
-          → ArrivedAt quiet s st (here q) (q .here .held .at .placed) (takes q) r out₁ on said others
-          → TurnTo (from .label) (st .start) (movesAt q) (judgementsAt q) (toCome sum (judgementsAt q others)) on said
+          → ArrivedAt stepless s st (here q) (q .here .held .at .placed) (takes q) r out₁ on said others
+          → TurnTo (from .label) (st .start) (movesAt q) (judgementsAt q) (knowsAt q) (toCome sum (judgementsAt q others)) on said
           (End (Done (sum .truth) (sum .limited) (sum .left)))
       of q [] a = record {
         ends = λ j d. let same : j ≡ Done (sum .truth) (sum .limited) (sum .left) = cc in same ∙ none-to-come sum;
-        goes = λ v more d. absurd (let z : _≡_ {A = ℕ} 0 1 = cc in omega arith);
+        goes = λ v more k d. absurd (let z : _≡_ {A = ℕ} 0 1 = cc in omega arith);
       }
       of q (w ∷ others) (g, a, forms, kept) = absurd (let z : _≡_ {A = ℕ} 0 1 = cc in omega arith)
 
@@ -209,21 +212,22 @@ module _ {quiet : Bool} {s channel taken m out out₁ held message on said : Lis
       after-it : Resuming (from .label) (st .start) (movesAt q) on said v behind
       answer : j ≡ judgedOf left (judge (q .formula) (led q move))
       kept : Within (st .end) (length out) out after
+      learning : (t l : Bool) (n : ℕ) → j ≡ Done t l n → knowsAt q (learnt known g t l (left - n))
 
-    made : (q : Asked s f body depth st (from .label) channel taken m out) → (quiet ≡ true → stepDepth (q .formula) ≡ 0)
-        → Knows known (q .formula) (q .label) (here q .aliases) → {others : List Move}
+    made : (q : Asked s f body depth st (from .label) channel taken m out) → (stepless ≡ true → stepDepth (q .formula) ≡ 0)
+        → knowsAt q known → {others : List Move}
         → 510 ≤ length held → 510 ≤ length message → Resuming (from .label) (st .start) (movesAt q) held message from others → Made q others
     made q z knows {others} wide long b = of others (b .behind) (found q wide long b)
       where
         of : (others : List Move) → Behind (from .label) (st .start) (movesAt q) from others
-            → ArrivedAt quiet s st (here q) (q .here .held .at .placed) (takes q) r out₁ on said others → Made q others
+            → ArrivedAt stepless s st (here q) (q .here .held .at .placed) (takes q) r out₁ on said others → Made q others
         of [] b a = absurd (let z : _≡_ {A = ℕ} 0 1 = cc in omega arith)
         of (w ∷ others) b (g′, a, forms, sent) =
             let is : v ≡ stepOf (st .start) w = cc in
             let state : g′ ≡ g = cc in
             let (earlier, there) = listed b in
             let sends = sending (q .here .held) (from .label) (channelOf (here q .aliases) (q .label)) (takes q) earlier others w there in
-            let (answer, kept) = visited wm wo tells q z knows earlier others w there (rw state at forms) in
+            let (answer, kept, learning) = visited wm wo tells q z knows earlier others w there (rw state at forms) in
             record {
               move = w;
               behind = others;
@@ -235,26 +239,27 @@ module _ {quiet : Bool} {s channel taken m out out₁ held message on said : Lis
                   (record { behind = later earlier w there; keeping = sent });
               answer = answer;
               kept = kept;
+              learning = learning;
             }
 
   module _ {f m₁ after : List ℕ} {body depth high : ℕ} {known : Known} {sum : Sum} {v : step.Step} {g : Formed} (e : r ≡ By v g)
       (wm : Within 0 high m m₁) where
     spent : Tells known s f body depth g m₁ out₁ (sum .left) Spent after
-        → Turns quiet known s f body depth st from channel taken m out held message sum (End Spent) after on said
+        → Turns stepless known s f body depth st from channel taken m out held message sum (End Spent) after on said
     spent tells = record {
       exact = λ q z knows wide long b.
           let w = made e wm tells q z knows wide long b in
           let total = spent-to-come sum _ (judgementsAt q (w .behind)) (w .answer) refl in (
             record {
               ends = λ k x. let same : k ≡ Spent = cc in same ∙ total ∙ ap (λ ws. toCome sum (judgementsAt q ws)) (sym (w .same));
-              goes = λ u more x. absurd (let z : _≡_ {A = ℕ} 0 1 = cc in omega arith);
+              goes = λ u more k x. absurd (let z : _≡_ {A = ℕ} 0 1 = cc in omega arith);
             },
             w .kept,
           );
     }
 
     goes-on : {n : ℕ} {t l : Bool} → Tells known s f body depth g m₁ out₁ (sum .left) (Done t l n) after
-        → Turns quiet known s f body depth st from channel taken m out held message sum (turnOf v sum (Done t l n)) after on said
+        → Turns stepless known s f body depth st from channel taken m out held message sum (turnOf known g v sum (Done t l n)) after on said
     goes-on {n} {t} {l} tells = record {
       exact = λ q z knows wide long c.
           let w = made e wm tells q z knows wide long c in
@@ -262,9 +267,10 @@ module _ {quiet : Bool} {s channel taken m out out₁ held message on said : Lis
           let now : Sum = record { truth = sum .truth || t; limited = sum .limited || l; left = n } in (
             record {
               ends = λ k x. absurd (let z : _≡_ {A = ℕ} 0 1 = cc in omega arith);
-              goes = λ u sum′ x.
+              goes = λ u sum′ known′ x.
                   let found-it : v ≡ u = cc in
                   let sums : now ≡ sum′ = cc in
+                  let knowing : learnt known g t l (sum .left - n) ≡ known′ = cc in
                   record {
                     label = rw found-it at (w .label);
                     others = w .behind;
@@ -273,6 +279,7 @@ module _ {quiet : Bool} {s channel taken m out out₁ held message on said : Lis
                     same =
                         ap (λ y. toCome y (judgementsAt q (w .behind))) (sym sums) ∙ more
                         ∙ ap (λ ws. toCome sum (judgementsAt q ws)) (sym (w .same));
+                    knowing = subst (knowsAt q) knowing (w .learning t l n refl);
                   };
             },
             w .kept,
@@ -280,10 +287,10 @@ module _ {quiet : Bool} {s channel taken m out out₁ held message on said : Lis
     }
 
     pub turn-by : {t : Turn} → Counts known s f body depth v g m₁ out₁ sum t after
-        → Turns quiet known s f body depth st from channel taken m out held message sum t after on said
+        → Turns stepless known s f body depth st from channel taken m out held message sum t after on said
     turn-by {t} c = rw (c .answer) (of (c .judged) (c .tells))
       where
         of : (j : Judged) → Tells known s f body depth g m₁ out₁ (sum .left) j after
-            → Turns quiet known s f body depth st from channel taken m out held message sum (turnOf v sum j) after on said
+            → Turns stepless known s f body depth st from channel taken m out held message sum (turnOf known g v sum j) after on said
         of (Done t l n) tells = goes-on tells
         of Spent tells = spent tells

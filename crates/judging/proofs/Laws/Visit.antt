@@ -13,7 +13,7 @@ use Rattle.meaning.specs.Judging.Limits.{over}
 use Rattle.meaning.specs.Judging.Visits.{Arrival}
 use Rattle.nodes.specs.Buffer.{Within}
 use Rattle.nodes.proofs.Laws.Buffer.{one-after, wider}
-use Rattle.layouts.specs.Ends.{FormulaEnd}
+use Rattle.formula_indexes.specs.Index.{Ends}
 use Rattle.binds.specs.Decide.{comparedOf, Compares}
 use Rattle.binds.specs.declared.decide.Compared.{Compared}
 use Rattle.binds.specs.declared.decide.Compared.the-variants.{Terms, TooLarge}
@@ -21,7 +21,7 @@ use Rattle.states.specs.declared.state.State as code
 use Rattle.forms.specs.declared.form.Formed.{Formed}
 use Rattle.forms.specs.declared.form.Formed.the-variants.{At, OverLimit}
 use Rattle.labels.specs.Place.{FormulaAt}
-use Rattle.labels.proofs.Laws.Formula.{formula-kind, shaped, shaped-step, of-equal, of-not, of-and, of-step}
+use Rattle.labels.proofs.Laws.Formula.{in-formula, formula-kind, shaped, shaped-step, of-equal, of-not, of-and, of-step}
 use Rattle.judging.specs.Reached.{Room, Here, Reached, Kept}
 use Rattle.judging.specs.Visit.{Judges, Visits, Equates, Negates, Conjoins, Seconds}
 use Rattle.judging.specs.Steps.{Stepped}
@@ -196,12 +196,12 @@ module _ {s f m out after : List ℕ} {at depth left : ℕ} {st : code.State} {r
   }
 
   pub conjoins-both : {m₁ last : List ℕ} {n mid : ℕ} {t l : Bool} {v : Judged} → r ≡ Done t l n → length m₁ ≡ length m
-      → length after ≡ length out → FormulaEnd f at mid
+      → length after ≡ length out → Ends f at mid
       → Seconds s f mid depth st m₁ after (record { truth = t; limited = l; left = n }) v last → Conjoins s f at depth st m out left v last
   conjoins-both e lm lo ends second = record {
     exact = λ F G A {steps} {mid = mid′} {next} first stands here room.
         let (answer, kept) = judges .exact F A first here room in
-        let same = ends .same F (first .stands) in
+        let same = ends .same F (in-formula first) in
         let there = subst (λ (n : ℕ). FormulaAt f n depth steps (length (A .state .aliases)) G next) (sym same) stands in
         let (both-answer, later) = second .exact G A there (here-kept kept here) (room-kept lm lo room) in
         record {

@@ -3,16 +3,17 @@ use mathlib.Core.Path.{_≡_, refl, sym, _∙_}
 use mathlib.Core.List.{List, [], _∷_, _++_, append-assoc}
 use Prim.Native.Nat.{ℕ, zero, suc, _+_, _-_, _≤_, _<_}
 use native.Mathlib.Omega.{arith}
-use lib.ListN.{length, getD}
+use lib.ListN.{length, getD, length-append}
 use Rattle.meaning.specs.Messages.Term.{Term}
 use Rattle.meaning.specs.Bytes.Formula.{Label, output, input, silent, Formula, equal, not, and, step}
 use Rattle.meaning.specs.Bytes.Encoding.{encodeTerm, encodeFormula}
 use Rattle.meaning.specs.Bytes.Scope.{bindsLabel}
 use Rattle.meaning.specs.Bytes.WellFormed.{IsFormula}
-use Rattle.meaning.proofs.Bytes.Reading.Place.{parts, whole-stands}
+use Rattle.meaning.proofs.Bytes.Reading.Place.{parts}
 use Rattle.layouts.proofs.Laws.Standing.{first-byte, goes-on}
+use Rattle.formula_indexes.specs.Index.{Indexed, InFormula, Builds}
 use Rattle.terms.specs.Work.{TermAt}
-use Rattle.labels.specs.Place.{FormulaAt, kindOf, encodeLabel, LabelAt}
+use Rattle.labels.specs.Place.{FormulaAt, FormulaIn, kindOf, encodeLabel, LabelAt}
 
 -- The numbers that document 01 gives to the kinds.
 abbrev pub kindNumber : Formula → ℕ
@@ -36,14 +37,26 @@ shape (step (output C) F) = (output C, F, refl, refl)
 shape (step (input C M) F) = (input C M, F, refl, refl)
 shape (step silent F) = (silent, F, refl, refl)
 
--- A step formula: the kind, the fields of the label, the body.
+-- A step formula: the kind, the fields of the label, the body, which is in the index where they end.
 step-bytes : (a : Label) (F : Formula) → encodeFormula (step a F) ≡ kindOf a ∷ encodeLabel a ++ encodeFormula F
 unfolding encodeFormula
 step-bytes (output C) F = refl
 step-bytes (input C M) F = rw append-assoc
 step-bytes silent F = refl
 
+step-indexed : (f : List ℕ) (at body : ℕ) (a : Label) (F : Formula) → body ≡ at + 1 + length (encodeLabel a) → Indexed f at (step a F)
+    → Indexed f body F
+step-indexed f at body (output C) F e i = rw e (i .1)
+step-indexed f at body (input C M) F e i =
+    let both : body ≡ at + 1 + length (encodeTerm C) + length (encodeTerm M) = omega (arith, length-append (encodeTerm C) (encodeTerm M)) in
+    rw both (i .1)
+step-indexed f at body silent F e i = let first : body ≡ at + 1 = omega arith in rw first (i .1)
+
 module _ {f : List ℕ} {at left steps scope next : ℕ} where
+  -- It is among the bytes of the whole formula, and in the index.
+  pub in-formula : {F : Formula} → FormulaAt f at left steps scope F next → InFormula f at F next
+  in-formula p = record { stands = p .stands; indexed = p .indexed; inside = p .inside }
+
   -- A kind stands first, and a node is left for it.
   pub formula-kind : (F : Formula) → FormulaAt f at left steps scope F next → (getD f at 0 ≡ kindNumber F) × (at < length f) × (1 ≤ left)
   unfolding encodeFormula
@@ -85,13 +98,16 @@ module _ {f : List ℕ} {at left steps scope next : ℕ} where
         stepped = p .stepped;
         terms = p .terms;
         scoped = p .scoped;
+        indexed = p .indexed .1;
+        inside = p .inside;
       }
 
   pub of-and : (G H : Formula) → FormulaAt f at left steps scope (and G H) next
       → (mid : ℕ) × FormulaAt f (at + 1) (left - 1) steps scope G mid × FormulaAt f mid (left - 1) steps scope H next
   unfolding encodeFormula
   of-and G H p =
-      let (first, k, (mid, x, y)) = parts (2 ∷ []) (encodeFormula G ∷ encodeFormula H ∷ []) (p .stands) in (
+      let (first, k, (mid, x, y)) = parts (2 ∷ []) (encodeFormula G ∷ encodeFormula H ∷ []) (p .stands) in
+      let second : mid ≡ at + 1 + length (encodeFormula G) = omega (arith, x .size, k .size) in (
         mid,
         record {
           stands = rw (k .size) at x;
@@ -99,6 +115,8 @@ module _ {f : List ℕ} {at left steps scope next : ℕ} where
           stepped = omega (arith, p .stepped);
           terms = omega (arith, p .terms);
           scoped = p .scoped .0;
+          indexed = p .indexed .1;
+          inside = omega (arith, p .inside, y .size);
         },
         record {
           stands = y;
@@ -106,6 +124,8 @@ module _ {f : List ℕ} {at left steps scope next : ℕ} where
           stepped = omega (arith, p .stepped);
           terms = omega (arith, p .terms);
           scoped = p .scoped .1;
+          indexed = rw second (p .indexed .2);
+          inside = p .inside;
         },
       )
 
@@ -123,16 +143,25 @@ module _ {f : List ℕ} {at left steps scope next : ℕ} where
           stepped = omega (arith, p .stepped);
           terms = omega (arith, p .terms);
           scoped = p .scoped .1;
+          indexed = step-indexed f at body a G (omega (arith, m .size, k .size)) (p .indexed);
+          inside = p .inside;
         },
         omega (arith, p .stepped),
       )
 
--- A formula stands in its own slice.
-pub whole-formula : {f : List ℕ} {F : Formula} → IsFormula f F → FormulaAt f 0 48 16 0 F (length f)
-whole-formula {f} w = record {
-  stands = rw (w .encoded) (whole-stands f);
-  deep = w .nodes;
-  stepped = w .steps;
-  terms = w .terms;
-  scoped = w .scoped;
-}
+-- A formula that was put into a slice with its index stands there.
+pub formula-in : {formula f : List ℕ} {F : Formula} → Builds formula f → IsFormula formula F → FormulaIn f F
+formula-in {formula} {F = F} b w =
+    let p = b .exact F w in
+    record {
+      next = length formula;
+      at = record {
+        stands = p .stands;
+        deep = w .nodes;
+        stepped = w .steps;
+        terms = w .terms;
+        scoped = w .scoped;
+        indexed = p .indexed;
+        inside = p .inside;
+      };
+    }

@@ -63,7 +63,7 @@ processes (let-in M P) = node 5 (M ∷ []) (P ∷ []) refl (omega arith) refl re
 processes (par P Q) = node 6 [] (P ∷ Q ∷ []) refl (omega arith) refl refl
 processes (repl P) = node 7 [] (P ∷ []) refl (omega arith) refl refl
 
-pub formulas : (F : Formula) → Node encodeTerm encodeFormula 6 formulaLayouts F
+unfoldable pub formulas : (F : Formula) → Node encodeTerm encodeFormula 6 formulaLayouts F
 unfolding encodeFormula
 formulas (Formula.equal M N) = node 0 (M ∷ N ∷ []) [] refl (omega arith) refl refl
 formulas (Formula.not F) = node 1 [] (F ∷ []) refl (omega arith) refl refl

@@ -143,14 +143,14 @@ bare-free A e =
 
 -- For those that look at the threads, and for others.
 module _ {s : List ℕ} {st : code.State} {v : step.Step} {message m out : List ℕ} {f : Formed} where
-  pub leads-whole : {quiet : Bool} {after : List ℕ} → Leads s st v message m out f after → LeadsFor quiet s st v message m out f after
+  pub leads-whole : {stepless : Bool} {after : List ℕ} → Leads s st v message m out f after → LeadsFor stepless s st v message m out f after
   leads-whole leads = record {
     exact = λ S h x w moving leading.
         (arrivalOf S (outcome (h .at .placed) (S .next) x w), itself, leads .exact S h x w moving leading);
   }
 
-  pub leads-again : {quiet : Bool} {m₁ out₁ after : List ℕ} {low high high₁ : ℕ} → Within low high m m₁ → Within (st .end) high₁ out out₁
-      → Leads s st v message m₁ out₁ f after → LeadsFor quiet s st v message m out f after
+  pub leads-again : {stepless : Bool} {m₁ out₁ after : List ℕ} {low high high₁ : ℕ} → Within low high m m₁ → Within (st .end) high₁ out out₁
+      → Leads s st v message m₁ out₁ f after → LeadsFor stepless s st v message m out f after
   unfolding held-kept
   leads-again wm wo leads = record {
     exact = λ S h x w moving leading. (
@@ -160,8 +160,8 @@ module _ {s : List ℕ} {st : code.State} {v : step.Step} {message m out : List 
     );
   }
 
-  pub leads-bare : {after : List ℕ} {b : code.State} {quiet : Bool} → FormsBare s st v message m out f after → f ≡ formed.At b → quiet ≡ true
-      → LeadsFor quiet s st v message m out (formed.At b) after
+  pub leads-bare : {after : List ℕ} {b : code.State} {stepless : Bool} → FormsBare s st v message m out f after → f ≡ formed.At b → stepless ≡ true
+      → LeadsFor stepless s st v message m out (formed.At b) after
   leads-bare {after} {b} forms e q = record {
     exact = λ S h x w moving leading.
         let A = arrivalOf S (outcome (h .at .placed) (S .next) x w) in
@@ -175,4 +175,4 @@ module _ {s : List ℕ} {st : code.State} {v : step.Step} {message m out : List 
         );
   }
 
-pub ruleset quiet-leadings = (leads-whole, leads-again, leads-bare)
+pub ruleset stepless-leadings = (leads-whole, leads-again, leads-bare)

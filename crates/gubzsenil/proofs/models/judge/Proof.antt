@@ -5,6 +5,9 @@ use Rattle.gubzsenil.proofs.models.judge.Tie as tie
 
 pub judge-spec : {M : Type 1} → statement M
 judge-spec = tie.close (tie.spec
+    (λ c. search needs)
+    (λ c. search needs)
+    (λ c. search needs)
     (λ c κs. search needs)
     (λ c κs. search needs)
     (λ c. search needs)

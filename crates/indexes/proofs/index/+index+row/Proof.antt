@@ -5,8 +5,8 @@ use borrow.Author.Needs.{needs}
 use borrow.Fn.Kinds.{In, PK}
 use borrow.Fn.PlainCycle.{Measures, is, falls, and}
 use mathlib.Core.List.{List}
-use Rattle.nodes.proofs.Laws.Buffer.{unchanged, one-after}
-use Rattle.indexes.proofs.Laws.Index.{indexing, rows}
+use Rattle.nodes.proofs.Laws.Buffer.{unchanged}
+use Rattle.indexes.proofs.Laws.Index.{model-left, indexing, rows}
 use Rattle.indexes.proofs.index.index.Reads as index
 use Rattle.indexes.proofs.index.index.Kinds as index-kinds
 use Rattle.indexes.proofs.index.+index+row.Lts-index as index-lts
@@ -86,7 +86,7 @@ pub +index+row-spec : {M : Type 1} → statement M
     (λ c κs. search needs)
     (λ c κs. search needs)
     (λ c. search needs)
-    (λ c. (search (needs, one-after), search (needs, indexing))))
+    (λ c. (search (needs, model-left), search (needs, indexing))))
     λ t. row-lts.spec (row-claims t)
     (at row-kinds.ps μ-row row.Pre t)
     row.Post
@@ -98,4 +98,4 @@ pub +index+row-spec : {M : Type 1} → statement M
     (λ c κs. search needs)
     (λ c κs. search needs)
     (λ c. search needs)
-    (λ c. (search (needs, one-after), search (needs, rows)))
+    (λ c. (search (needs, model-left), search (needs, rows)))

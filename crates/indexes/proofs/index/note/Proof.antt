@@ -11,6 +11,8 @@ note-spec = tie.close (tie.spec
     (λ c. (search (needs, entries), search (needs, entries)))
     (λ c. search needs)
     (λ c. search needs)
+    (λ c. search needs)
+    (λ c. (search (needs, entries), search (needs, entries)))
     (λ c κs. (search needs, search (needs, fitting), search (needs, fitting)))
     (λ c. search needs)
     (λ c κs. search needs)

@@ -8,8 +8,6 @@ use borrow.Fn.Kinds.{In, PK}
 use borrow.Fn.PlainCycle.{Measures, is, falls, and}
 use Rattle.judging.proofs.judge.conjunction.Reads as conjunction
 use Rattle.judging.proofs.judge.conjunction.Kinds as conjunction-kinds
-use Rattle.judging.proofs.known.sample.Reads as sample
-use Rattle.judging.proofs.known.sample.Kinds as sample-kinds
 use Rattle.judging.proofs.known.tell.Reads as tell
 use Rattle.judging.proofs.known.tell.Kinds as tell-kinds
 use Rattle.judging.proofs.stepping.count.Reads as count
@@ -38,16 +36,17 @@ use Rattle.judging.proofs.judged.both.Reads as both-reads
 use Rattle.judging.proofs.judged.either.Reads as either-reads
 use Rattle.judging.proofs.known.charge.Reads as charge-reads
 use Rattle.judging.proofs.known.confined.Reads as confined-reads
-use Rattle.judging.proofs.known.fixed.Reads as fixed-reads
+use Rattle.judging.proofs.known.begin.Reads as begin-reads
+use Rattle.judging.proofs.known.learn.Reads as learn-reads
 use Rattle.labels.proofs.head.work.Reads as work-reads
-use Rattle.judging.proofs.quiet.quiet.Reads as quiet-reads
-use Rattle.layouts.proofs.ends.formula.Reads as formula-reads
+use Rattle.formula_indexes.proofs.index.end.Reads as end-reads
+use Rattle.formula_indexes.proofs.index.stepless.Reads as stepless-reads
 use Rattle.nodes.proofs.node.wide.Reads as wide-reads
 use Rattle.steps.proofs.next.before.Reads as before-reads
-use Rattle.judging.proofs.+judge-conjunction+judge-judge+judge-negation+judge-node+judge-second+judge-visit+known-sample+known-tell+stepping-count+stepping-step+stepping-steps+stepping-turn+stepping-turns as cycle
+use Rattle.judging.proofs.+judge-conjunction+judge-judge+judge-negation+judge-node+judge-second+judge-visit+known-tell+stepping-count+stepping-step+stepping-steps+stepping-turn+stepping-turns as cycle
 use Rattle.judging.proofs.Laws.Less.{lessening, falling}
 use Rattle.judging.proofs.Laws.Visit.{judgings, visitings, kinds, sides}
-use Rattle.judging.proofs.Laws.Known.{samplings, tellings, countings}
+use Rattle.judging.proofs.Laws.Known.{tellings, countings}
 use Rattle.judging.proofs.Laws.Turn.{turn-none, turn-by}
 use Rattle.judging.proofs.Laws.Loop.{Looping, looping-falls, loopings, steps-known}
 use Rattle.judging.proofs.Laws.Step.{steppings, shortness}
@@ -69,9 +68,6 @@ abbrev μ-node : Measures 4 node-kinds.ps ℕ
 
 abbrev μ-second : Measures 4 second-kinds.ps ℕ
 μ-second κs a = 9 * a .1 .1 .1 .0 + 8
-
-abbrev μ-sample : Measures 4 sample-kinds.ps ℕ
-μ-sample κs a = 9 * a .1 .1 .1 .0 + 8
 
 abbrev μ-step : Measures 4 step-kinds.ps ℕ
 μ-step κs a = 9 * a .1 .1 .1 .1 .0 + 13
@@ -99,11 +95,11 @@ abbrev below : (n : ℕ) (ps : List (PK n)) → Measures n ps ℕ → In n ps �
 below n ps μ pre t = and n ps (falls n ps _<_ μ t) pre
 
 abbrev turns-Inv-loop : cycle.Lts-stepping-turns.InvT-loop
-turns-Inv-loop s f depth state channel taken quiet known m₀ out₀ left from₀ sum₀ body held₀ message₀ m out from sum held message =
-    Looping quiet known s f body depth state (from₀ .label) channel taken m₀ out₀ left m out held message from sum
+turns-Inv-loop s f depth state channel taken stepless m₀ out₀ left from₀ sum₀ body told₀ held₀ message₀ m out from sum told held message =
+    Looping stepless told₀ s f body depth state (from₀ .label) channel taken m₀ out₀ left m out held message from sum told
 
 abbrev turns-μ-loop : cycle.Lts-stepping-turns.MeasureT-loop
-turns-μ-loop s f depth state channel taken quiet known m₀ out₀ left from₀ sum₀ body held₀ message₀ m out from sum held message = sum .left
+turns-μ-loop s f depth state channel taken stepless m₀ out₀ left from₀ sum₀ body told₀ held₀ message₀ m out from sum told held message = sum .left
 
 -- What is known of the functions that are called on the way from a step formula to its turns.
 abbrev step-claims : ℕ → cycle.Lts-stepping-step.Claims
@@ -172,8 +168,8 @@ turns-returns : (t : ℕ) → cycle.Lts-stepping-turns.Need-returns (turns-claim
     turns.Post turns-Inv-loop turns-μ-loop
 turns-returns t c = (search needs, (search needs, (search (needs, loopings), search (needs, loopings))))
 
-pub +judge·conjunction+judge·judge+judge·negation+judge·node+judge·second+judge·visit+known·sample+known·tell+stepping·count+stepping·step+stepping·steps+stepping·turn+stepping·turns-spec : {M : Type 1} → cycle.statement M
-+judge·conjunction+judge·judge+judge·negation+judge·node+judge·second+judge·visit+known·sample+known·tell+stepping·count+stepping·step+stepping·steps+stepping·turn+stepping·turns-spec =
+pub +judge·conjunction+judge·judge+judge·negation+judge·node+judge·second+judge·visit+known·tell+stepping·count+stepping·step+stepping·steps+stepping·turn+stepping·turns-spec : {M : Type 1} → cycle.statement M
++judge·conjunction+judge·judge+judge·negation+judge·node+judge·second+judge·visit+known·tell+stepping·count+stepping·step+stepping·steps+stepping·turn+stepping·turns-spec =
     cycle.Tie.close
     μ-conjunction
     μ-judge
@@ -181,7 +177,6 @@ pub +judge·conjunction+judge·judge+judge·negation+judge·node+judge·second+j
     μ-node
     μ-second
     μ-visit
-    μ-sample
     μ-tell
     μ-count
     μ-step
@@ -191,8 +186,8 @@ pub +judge·conjunction+judge·judge+judge·negation+judge·node+judge·second+j
     (λ t. cycle.Lts-judge-conjunction.spec (
       below 4 judge-kinds.ps μ-judge judge.Pre t,
       judge.Post,
-      formula-reads.Asked,
-      formula-reads.Learnt,
+      end-reads.Asked,
+      end-reads.Learnt,
       below 4 second-kinds.ps μ-second second.Pre t,
       second.Post,
     )
@@ -307,22 +302,6 @@ pub +judge·conjunction+judge·judge+judge·negation+judge·node+judge·second+j
     (λ c. search needs)
     (λ c. search needs)
     (λ c. (search needs, (search needs, (search (needs, lessening), search (needs, visitings))))))
-    (λ t. cycle.Lts-known-sample.spec
-    (fixed-reads.Asked, fixed-reads.Learnt, below 4 judge-kinds.ps μ-judge judge.Pre t, judge.Post)
-    (at 4 sample-kinds.ps μ-sample sample.Pre t)
-    sample.Post
-    (λ c κs. search needs)
-    (λ c κs. search needs)
-    (λ c. search needs)
-    (λ c. search needs)
-    (λ c. search needs)
-    (λ c. search needs)
-    (λ c. search needs)
-    (λ c. (search needs, (search needs, search (needs, samplings))))
-    (λ c. search needs)
-    (λ c. search needs)
-    (λ c. (search needs, (search needs, search (needs, samplings))))
-    (λ c. (search needs, (search needs, search (needs, samplings)))))
     (λ t. cycle.Lts-known-tell.spec (
       confined-reads.Asked,
       confined-reads.Learnt,
@@ -336,9 +315,8 @@ pub +judge·conjunction+judge·judge+judge·negation+judge·node+judge·second+j
     (λ c κs. search needs)
     (λ c. search needs)
     (λ c κs. search needs)
-    (λ c. search needs)
-    (λ c κs. search needs)
     (λ c. (search needs, (search needs, (search needs, search (needs, tellings)))))
+    (λ c κs. search needs)
     (λ c. search needs)
     (λ c. search needs)
     (λ c. (search needs, (search needs, (search needs, search (needs, tellings))))))
@@ -347,12 +325,16 @@ pub +judge·conjunction+judge·judge+judge·negation+judge·node+judge·second+j
       tell.Post,
       either-reads.Asked,
       either-reads.Learnt,
+      learn-reads.Asked,
+      learn-reads.Learnt,
     )
     (at 4 count-kinds.ps μ-count count.Pre t)
     count.Post
     (λ c κs. search needs)
     (λ c. search needs)
     (λ c κs. search needs)
+    (λ c κs. search needs)
+    (λ c. search (needs, falling))
     (λ c κs. search needs)
     (λ c. search needs)
     (λ c. search needs)
@@ -380,10 +362,10 @@ pub +judge·conjunction+judge·judge+judge·negation+judge·node+judge·second+j
     (λ c. search needs)
     (step-returns-2 t))
     (λ t. cycle.Lts-stepping-steps.spec (
-      quiet-reads.Asked,
-      quiet-reads.Learnt,
-      below 4 sample-kinds.ps μ-sample sample.Pre t,
-      sample.Post,
+      stepless-reads.Asked,
+      stepless-reads.Learnt,
+      begin-reads.Asked,
+      begin-reads.Learnt,
       below 6 turns-kinds.ps μ-turns turns.Pre t,
       turns.Post,
     )

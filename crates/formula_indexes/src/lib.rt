@@ -1,0 +1,2 @@
+// The index of a formula ("Bytes", the formula kinds).
+pub mod index;
