@@ -55,8 +55,12 @@ pub fn all(processes: Vec<Process>) -> Process {
     processes.into_iter().rev().reduce(|right, left| par(left, right)).unwrap_or(Process::Nil)
 }
 
+pub fn equal(left: Term, right: Term) -> Formula {
+    Formula::Equal(left, right)
+}
+
 pub fn yes() -> Formula {
-    Formula::Equal(name(0), name(0))
+    equal(name(0), name(0))
 }
 
 pub fn not(body: Formula) -> Formula {

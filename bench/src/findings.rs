@@ -96,6 +96,13 @@ pub fn with_formula(depth: usize) -> Finding {
     Finding::of(depth.to_string(), &takers(8, 1), &takes(0, 9, body))
 }
 
+/// One step, and so many conjuncts behind it, the first one innermost, each of them 47 bytes long.
+pub fn with_conjuncts(count: usize) -> Finding {
+    let conjunct = || equal(tree(3), tree(3));
+    let body = (1..count).fold(conjunct(), |left, _| and(left, conjunct()));
+    Finding::of(count.to_string(), &takers(8, 1), &takes(0, 9, body))
+}
+
 /// Sessions of a repl that go on for so many bytes behind their first output, which is all that is judged.
 pub fn with_model(bytes: usize) -> Finding {
     let mut rest = nil();

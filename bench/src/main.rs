@@ -20,6 +20,7 @@ fn main() {
     growth("threads", &[1, 2, 4, 8, 16, 30].map(findings::with_threads));
     growth("nodes of each of 8 messages", &[0, 1, 2, 3, 4, 5].map(findings::with_messages));
     growth("negations", &[1, 10, 20, 30, 40, 46].map(findings::with_formula));
+    growth("conjuncts", &[1, 10, 20, 30, 40, 46].map(findings::with_conjuncts));
     growth("bytes of the model", &[32, 128, 512, 1024, 2048, 4096].map(findings::with_model));
     reading();
 }
