@@ -61,7 +61,7 @@ typedef struct gubzsenil_answer {
  * Threads. Nothing is kept between calls, and there is no shared state: calls may run at the same time, each with work bytes of
  * its own.
  *
- * Stack. Some 90 KB for a finding such as an ePassport's, and 270 KB the most that was measured, for formulas and models nested
+ * Stack. Some 100 KB for a finding such as an ePassport's, and 280 KB the most that was measured, for formulas and models nested
  * as deep as they may be. That is measured and not proved: give a thread that calls it 1 MB.
  */
 gubzsenil_answer gubzsenil_verdict(const uint8_t *first, size_t first_bytes,
