@@ -14,6 +14,9 @@ mod well_formed;
 use crate::random::Random;
 use second_checker::verdict::WORK_LENGTH;
 
+/// The largest budget of a finding whose slices are changed.
+const CHANGED_BUDGET: u32 = 5000;
+
 /// The inputs of one call of the verdict.
 #[derive(Clone, Debug, PartialEq, Eq)]
 pub struct Finding {
@@ -62,13 +65,14 @@ fn damaged(random: &mut Random) -> Finding {
 /// A finding with a few bytes changed anywhere.
 fn scattered(random: &mut Random) -> Finding {
     let mut finding = well_formed::finding(random);
-    finding.budget = finding.budget.min(5000);
     let index = random.below(3);
     change_slices(&mut finding, |slices| damage::scatter(random, &mut slices[index]));
     finding
 }
 
+/// What is changed may be good still, and count far more than it did: its budget is kept small.
 fn change_slices(finding: &mut Finding, change: impl FnOnce(&mut [Vec<u8>; 3])) {
+    finding.budget = finding.budget.min(CHANGED_BUDGET);
     let mut slices = [&mut finding.first, &mut finding.second, &mut finding.formula].map(std::mem::take);
     change(&mut slices);
     [finding.first, finding.second, finding.formula] = slices;
