@@ -1,5 +1,5 @@
 // What is known of the body of a step formula before it is judged ("Judging and its count"): a body without steps comes to the same wherever a
-// step leads that adds no alias, so it is judged at the first such state, and counted for the others.
+// step leads that adds no alias, so it is judged at the first such state within its limits, and counted for the others.
 use crate::judge;
 use crate::judged::Judged;
 use forms::form::Formed;

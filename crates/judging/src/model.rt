@@ -13,7 +13,7 @@ ghost use Rattle.judging.specs.Model.{JudgesModel, JudgesIndexed};
 const NODES: usize = 48;
 
 // The formula that stands in the slice f with its index, judged of the model that the slice s is, with a budget of visits. The bytes m are for
-// the messages that are bound on the way, and the work bytes hold the states. The model is judged with its index beside it, which takes less
+// the messages that are bound on the way, and the work bytes hold the states. The model is judged with its index beside it, which takes fewer
 // bytes for a short one.
 pub fn judge(s: &[u8], f: &[u8], m: &mut [u8], out: &mut [u8], budget: u32) -> Judged
     requires { ⌜ (length (now s) ≤ 4096) × (10750 ≤ length (now m)) × (65536 ≤ length (now out)) ⌝ }
