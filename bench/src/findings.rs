@@ -1,7 +1,7 @@
 //! The findings that are timed. In each the formula is false of both models, so that every step is looked at in both.
 
 use crate::build::*;
-use notation::encoding;
+use comparison::encoding;
 use second_checker::syntax::{Formula, Process};
 use std::path::Path;
 

@@ -1,7 +1,8 @@
 //! Runs two checkers on copies of one finding, and says how they differ.
 
 use crate::generator::Finding;
-use second_checker::reading::{self, Refusal};
+use notation::decoding::{self, Refusal};
+use notation::print;
 use second_checker::verdict::Answer;
 use std::fmt;
 
@@ -74,16 +75,16 @@ fn four(answer: &Answer) -> String {
 
 /// The finding in notation, or which slices cannot be read.
 pub fn readable(finding: &Finding) -> String {
-    let first = reading::process(&finding.first);
-    let second = reading::process(&finding.second);
-    let formula = reading::formula(&finding.formula);
+    let first = decoding::process(&finding.first);
+    let second = decoding::process(&finding.second);
+    let formula = decoding::formula(&finding.formula);
     if let (Ok(first), Ok(second), Ok(formula)) = (&first, &second, &formula) {
-        return notation::print::finding(first, second, formula);
+        return print::finding(first, second, formula);
     }
     let lines = [
-        slice("first", first.as_ref().map(notation::print::process)),
-        slice("second", second.as_ref().map(notation::print::process)),
-        slice("formula", formula.as_ref().map(notation::print::formula)),
+        slice("first", first.as_ref().map(print::process)),
+        slice("second", second.as_ref().map(print::process)),
+        slice("formula", formula.as_ref().map(print::formula)),
     ];
     lines.join("\n")
 }
@@ -91,7 +92,7 @@ pub fn readable(finding: &Finding) -> String {
 fn slice(name: &str, tree: Result<String, &Refusal>) -> String {
     match tree {
         Ok(text) => format!("{name} {text}"),
-        Err(refusal) => format!("{name} is refused by rule {} at {}", refusal.rule, refusal.place),
+        Err(refusal) => format!("{name}: {refusal}"),
     }
 }
 

@@ -1,6 +1,7 @@
 //! The library's exported function, compared with the second checker on random findings.
 
 pub mod compare;
+pub mod encoding;
 pub mod generator;
 pub mod library;
 pub mod random;

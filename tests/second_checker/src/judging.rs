@@ -111,14 +111,14 @@ impl Judging {
 
     fn silent_steps(&mut self, body: &Formula, state: &State) -> Result<bool, Spent> {
         let mut some = false;
-        let walked = silent_steps(state, &mut |step| match self.reached(body, after_silent(state, &step)) {
+        let ended = silent_steps(state, &mut |step| match self.reached(body, after_silent(state, &step)) {
             Ok(truth) => {
                 some |= truth;
                 ControlFlow::Continue(())
             }
             Err(spent) => ControlFlow::Break(spent),
         });
-        match walked {
+        match ended {
             ControlFlow::Continue(()) => Ok(some),
             ControlFlow::Break(spent) => Err(spent),
         }

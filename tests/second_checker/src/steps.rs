@@ -106,7 +106,7 @@ pub fn silent_steps<'m, B>(
     Silent { openings: Vec::new(), each }.list(&state.threads, 0, state.names)
 }
 
-/// A walk through silent steps, below the openings made so far.
+/// The search for silent steps, below the openings made so far.
 struct Silent<'s, 'm, B> {
     openings: Vec<Opening<'m>>,
     each: &'s mut dyn FnMut(SilentStep<'m>) -> ControlFlow<B>,

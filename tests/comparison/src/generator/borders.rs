@@ -1,9 +1,9 @@
 //! Models and formulas that lead to a state near a limit: threads, private names, bound nodes.
 
 use super::forms;
+use super::formulas::{and, input_step, not, output_step, silent_step, truth};
 use super::models::{binding, input, new, output, par, par_of, repl};
 use super::terms::{name, sized};
-use super::walk::{and, input_step, not, output_step, silent_step, truth};
 use crate::random::Random;
 use second_checker::syntax::{Formula, Process, Term};
 

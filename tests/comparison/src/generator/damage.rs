@@ -1,9 +1,9 @@
 //! Damaged slices: each refusal, at random places.
 
+use super::formulas::{and, input_step, not, output_step, silent_step, truth};
 use super::models::{binding, input, new, output, par, repl, test};
-use super::walk::{and, input_step, not, output_step, silent_step, truth};
+use crate::encoding;
 use crate::random::Random;
-use notation::encoding;
 use second_checker::syntax::{Formula, Process, Term};
 
 /// Damages one of three slices in a way that mostly leads to `rule`, 1 to 8.

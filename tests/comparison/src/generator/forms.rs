@@ -1,9 +1,9 @@
 //! Normal forms near 255 nodes, in every place where one can arise.
 
 use super::borders::{placed, Bordered};
+use super::formulas::{input_step, output_step, truth};
 use super::models::{binding, input, new, output, par, repl, test};
 use super::terms::{dec, enc, fst, mac, name, pair, sized, sized_within, snd};
-use super::walk::{input_step, output_step, truth};
 use crate::random::Random;
 use second_checker::syntax::{Formula, Process, Term};
 

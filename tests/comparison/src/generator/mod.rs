@@ -3,12 +3,12 @@
 mod borders;
 mod damage;
 mod forms;
+mod formulas;
 mod knowledge;
 mod models;
 mod mutation;
 mod padding;
 mod terms;
-mod walk;
 mod well_formed;
 
 use crate::random::Random;

@@ -22,7 +22,7 @@ pub fn nodes(process: &Process) -> usize {
     }
 }
 
-/// A walk through a process in prefix order, to the node that is changed.
+/// Copies a process in prefix order; `left` nodes come before the one that is changed.
 struct Mutation<'r> {
     random: &'r mut Random,
     left: usize,

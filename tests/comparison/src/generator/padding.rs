@@ -1,9 +1,9 @@
 //! Well-formed slices of an exact length: what is added does nothing.
 
+use super::formulas::and;
 use super::models::{par, repl, test};
 use super::terms::written_in;
-use super::walk::and;
-use notation::encoding;
+use crate::encoding;
 use second_checker::syntax::{Formula, Process, Term};
 
 /// A model written with exactly `length` bytes, where it is short enough: the rest stands in a branch never taken.

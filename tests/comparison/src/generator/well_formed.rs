@@ -1,9 +1,9 @@
 //! Findings whose slices are well-formed, with budgets on both sides of their count.
 
 use super::borders::bordered;
-use super::{models, mutation, padding, walk, Finding};
+use super::{formulas, models, mutation, padding, Finding};
+use crate::encoding;
 use crate::random::Random;
-use notation::encoding;
 use second_checker::judging::Judging;
 use second_checker::reading;
 use second_checker::syntax::{Formula, Process};
@@ -64,7 +64,7 @@ fn truths(trees: &Trees) -> Option<(bool, bool)> {
 /// until the formula tells the models apart, or does not, as wanted.
 fn followed(random: &mut Random, model: impl Fn(&mut Random) -> Process) -> Trees {
     let first = model(random);
-    let mut trees = (first.clone(), first, walk::truth());
+    let mut trees = (first.clone(), first, formulas::truth());
     let told_apart = random.chance(65);
     for attempt in 0..30 {
         if attempt % 3 == 0 {
@@ -72,7 +72,7 @@ fn followed(random: &mut Random, model: impl Fn(&mut Random) -> Process) -> Tree
         }
         let steps = if random.chance(92) { random.between(1, 6) } else { random.between(7, 16) };
         let follow_first = random.chance(60);
-        trees.2 = walk::formula(random, if follow_first { &trees.0 } else { &trees.1 }, steps);
+        trees.2 = formulas::formula(random, if follow_first { &trees.0 } else { &trees.1 }, steps);
         match truths(&trees) {
             Some((first, second)) if (first != second) == told_apart => return turned(random, trees, first),
             _ => {}
@@ -100,7 +100,7 @@ fn turned(random: &mut Random, trees: Trees, true_of_first: bool) -> Trees {
         return (first, second, formula);
     }
     if random.chance(50) {
-        return (first, second, walk::not(formula));
+        return (first, second, formulas::not(formula));
     }
     (second, first, formula)
 }
@@ -116,10 +116,10 @@ fn at_borders(random: &mut Random) -> Trees {
     };
     if random.chance(20) {
         let steps = random.between(1, 4);
-        formula = walk::formula(random, &first, steps);
+        formula = formulas::formula(random, &first, steps);
     }
     if random.chance(30) {
-        formula = walk::not(formula);
+        formula = formulas::not(formula);
     }
     if random.chance(40) {
         return (second, first, formula);

@@ -1,0 +1,40 @@
+//! Terms and recipes.
+
+use super::{Bytes, Decoded};
+use crate::syntax::{Term, LARGEST_NAME};
+
+/// So many term nodes are on one path at most.
+const DEEPEST: usize = 8;
+
+/// A term where so many variables, or aliases, are in scope.
+pub fn term(bytes: &mut Bytes, scope: usize) -> Decoded<Term> {
+    below(bytes, scope, 0)
+}
+
+/// A term with so many term nodes around it.
+fn below(bytes: &mut Bytes, scope: usize, around: usize) -> Decoded<Term> {
+    let kind = bytes.kind(8)?.unless(around == DEEPEST, 7)?;
+    let mut part = || below(bytes, scope, around + 1).map(Box::new);
+    Ok(match kind.value {
+        0 => name(bytes)?,
+        1 => variable(bytes, scope)?,
+        2 => Term::Pair(part()?, part()?),
+        3 => Term::Fst(part()?),
+        4 => Term::Snd(part()?),
+        5 => Term::Enc(part()?, part()?),
+        6 => Term::Dec(part()?, part()?),
+        _ => Term::Mac(part()?, part()?),
+    })
+}
+
+fn name(bytes: &mut Bytes) -> Decoded<Term> {
+    let number = bytes.number()?;
+    Ok(Term::Name(number.unless(number.value > LARGEST_NAME, 5)?.value))
+}
+
+fn variable(bytes: &mut Bytes, scope: usize) -> Decoded<Term> {
+    let number = bytes.number()?;
+    let index = usize::from(number.value);
+    number.unless(index >= scope, 6)?;
+    Ok(Term::Variable(index))
+}

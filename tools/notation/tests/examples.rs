@@ -1,0 +1,53 @@
+//! The folders under `examples`: notation and bytes agree, and the README lists them with their answers.
+
+mod support;
+
+use notation::folder;
+use std::fs;
+use std::path::Path;
+use support::{examples, folders};
+
+fn answer(folder: &Path) -> [u32; 4] {
+    let finding = folder::finding(folder).unwrap_or_else(|message| panic!("{message}"));
+    finding.answer.unwrap_or_else(|| panic!("{}: no answer", folder.display()))
+}
+
+#[test]
+fn the_notation_gives_the_bytes() {
+    for folder in folders() {
+        assert_eq!(folder::differences(&folder), Ok(vec![]));
+    }
+}
+
+/// The notation printed from the bytes reads as the same trees.
+#[test]
+fn the_bytes_can_be_printed() {
+    for folder in folders() {
+        let printed = folder::printed(&folder).unwrap_or_else(|message| panic!("{message}"));
+        let read = notation::read(&printed).unwrap_or_else(|fault| panic!("{fault}, in\n{printed}"));
+        let written = folder::finding(&folder).unwrap_or_else(|message| panic!("{message}"));
+        assert_eq!(folder::slices(&read), folder::slices(&written));
+    }
+}
+
+#[test]
+fn each_says_first_what_it_shows() {
+    for folder in folders() {
+        let finding = folder::finding(&folder).unwrap_or_else(|message| panic!("{message}"));
+        assert!(finding.summary.ends_with('.'), "{}: {:?}", folder.display(), finding.summary);
+    }
+}
+
+/// The table in the README has a row for each folder, which ends with its answer.
+#[test]
+fn the_readme_lists_each() {
+    let readme = fs::read_to_string(examples().join("README.md")).expect("the README of the examples");
+    let rows: Vec<&str> = readme.lines().filter(|line| line.starts_with("| [")).collect();
+    for folder in folders() {
+        let name = folder.file_name().and_then(|name| name.to_str()).expect("a name");
+        let start = format!("| [{name}](");
+        let end = format!("| `{}` |", answer(&folder).map(|number| number.to_string()).join(" "));
+        assert!(rows.iter().any(|row| row.starts_with(&start) && row.ends_with(&end)), "{name}: {end}");
+    }
+    assert_eq!(rows.len(), folders().len());
+}
