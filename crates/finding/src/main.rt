@@ -1,6 +1,7 @@
 // Judges the finding in the folder where it is run: first.bin, second.bin and formula.bin, with a budget of 1,000,000 visits. It writes the
 // four numbers of the verdict in decimal, one space between, and then a newline ("Judged by hand").
 use libc::STDOUT_FILENO;
+use verdict_input::answer::Answer;
 ghost use Prim.Native.Nat.{_≤_};
 ghost use lib.ListN.{length};
 
@@ -23,7 +24,7 @@ fn load(path: &[u8], slice: &mut [u8]) -> usize
 }
 
 // Writes a number, and what stands behind it.
-fn tell(number: u32, behind: &[u8]) {
+fn print(number: u32, behind: &[u8]) {
     io::print_decimal(STDOUT_FILENO, number as u64);
     io::write_all(STDOUT_FILENO, behind);
 }
@@ -31,11 +32,11 @@ fn tell(number: u32, behind: &[u8]) {
 // The verdict on three slices.
 fn judge(first: &[u8], second: &[u8], formula: &[u8]) {
     let mut work = io::large_buffer();
-    let answer = gubzsenil::gubzsenil_verdict(first, second, formula, &mut work, BUDGET);
-    tell(answer.result, b" ");
-    tell(answer.slice, b" ");
-    tell(answer.place, b" ");
-    tell(answer.count, b"\n");
+    let answer: Answer = gubzsenil::gubzsenil_verdict(first, second, formula, &mut work, BUDGET);
+    print(answer.result, b" ");
+    print(answer.slice, b" ");
+    print(answer.place, b" ");
+    print(answer.count, b"\n");
 }
 
 // The same on two slices, and on the formula that a file has.

@@ -1,6 +1,2 @@
--- The laws by which the functions meet their contracts. Assumes nothing.
-pub mod Place
-pub mod Input
-pub mod Judged
-pub mod Clear
+-- The laws by which the functions meet their contracts.
 pub mod Verdict

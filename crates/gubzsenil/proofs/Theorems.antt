@@ -1,4 +1,4 @@
--- What a call that keeps its promise may answer ("Turned back for the state"). Assumes nothing.
+-- What a call that keeps its promise may answer ("Turned back for the state").
 use mathlib.Core.Path.{_≡_, ap}
 use mathlib.Core.Logic.{_↔_}
 use mathlib.Core.List.{List}
@@ -12,8 +12,8 @@ use Rattle.meaning.specs.Theorems.{Acceptable}
 use Rattle.meaning.proofs.Bytes.Reading.{modelsRead}
 use Rattle.meaning.proofs.Logic.Bisimulation.{excluded}
 use Rattle.meaning.proofs.Verdict as verdicts
-use Rattle.gubzsenil.specs.declared.answer.Answer.{Answer}
-use Rattle.gubzsenil.specs.Answer.{numbers}
+use Rattle.verdict_input.specs.declared.answer.Answer.{Answer}
+use Rattle.verdict_input.specs.Answer.{numbers}
 use Rattle.gubzsenil.specs.Theorems.{AcceptedExcludes, AcceptedExactly}
 
 -- The four numbers alone decide it.

@@ -1,5 +1,5 @@
 -- The theorems on everything that a call may answer ("Turned back for the state"): whatever answer r and work bytes after keep the
--- promise. Their proofs are in proofs/Theorems.antt, under the same names with a small first letter. Assumes nothing.
+-- promise. Their proofs are in proofs/Theorems.antt, under the same names with a small first letter.
 use mathlib.Core.Path.{_≡_}
 use mathlib.Core.Logic.{_↔_}
 use mathlib.Core.List.{List}
@@ -10,7 +10,7 @@ use Rattle.meaning.specs.Bytes.WellFormed.{IsModel}
 use Rattle.meaning.specs.Steps.State.{State, start}
 use Rattle.meaning.specs.Logic.Bisimulation.{Bisimulation}
 use Rattle.meaning.specs.Theorems.{Acceptable}
-use Rattle.gubzsenil.specs.declared.answer.Answer.{Answer}
+use Rattle.verdict_input.specs.declared.answer.Answer.{Answer}
 use Rattle.gubzsenil.specs.Verdict.{Promise}
 
 -- Demand 3, first half: result 0 excludes every strong early bisimulation between the start states.

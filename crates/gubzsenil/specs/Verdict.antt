@@ -1,5 +1,5 @@
 -- What a call promises: the four numbers, every work byte, and when a finding is accepted ("Turned back for the input";
--- "Turned back for the state"). Assumes nothing.
+-- "Turned back for the state").
 use mathlib.Core.Path.{_≡_}
 use mathlib.Core.Logic.{_↔_}
 use mathlib.Core.Bool.{Bool, false}
@@ -13,8 +13,8 @@ use Rattle.meaning.specs.Steps.State.{State, start}
 use Rattle.meaning.specs.Logic.Bisimulation.{Bisimulation}
 use Rattle.meaning.specs.Verdict.{verdict, workAfter}
 use Rattle.meaning.specs.Theorems.{Acceptable}
-use Rattle.gubzsenil.specs.declared.answer.Answer.{Answer}
-use Rattle.gubzsenil.specs.Answer.{numbers}
+use Rattle.verdict_input.specs.declared.answer.Answer.{Answer}
+use Rattle.verdict_input.specs.Answer.{numbers}
 
 -- For the bytes of the three slices and of the work buffer and for the budget: the answer r, and the work bytes after the call.
 pub record Promise (first second formula work : List ℕ) (budget : ℕ) (r : Answer) (after : List ℕ) : Type 0 where

@@ -1,4 +1,4 @@
--- Bytes: reading is exact and refusals are exact ("Bytes", "Turned back for the input"). Assumes nothing.
+-- Bytes: reading is exact and refusals are exact ("Bytes", "Turned back for the input").
 pub mod Reader
 pub mod Reading
 pub mod Refusal

@@ -1,4 +1,4 @@
--- The laws of a property that holds at every place of a list. Assumes nothing.
+-- The laws of a property that holds at every place of a list.
 use Prim.Native.Nat.{ℕ, zero, suc}
 use mathlib.Core.List.{List, [], _∷_, _++_}
 use lib.ListN.{getD}

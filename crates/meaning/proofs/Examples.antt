@@ -1,4 +1,4 @@
--- Every entry of the table of worked examples computes to what document 01 says. Assumes nothing.
+-- Every entry of the table of worked examples computes to what document 01 says.
 use mathlib.Core.Path.{refl}
 use mathlib.Core.List.{flatMap}
 use Rattle.meaning.specs.Messages.Normal.{same, project, crypt, build, normal, equal}

@@ -1,4 +1,4 @@
--- Where no visit met a limit, the judged truth is the truth of the table ("Judging and its count"). Assumes nothing.
+-- Where no visit met a limit, the judged truth is the truth of the table ("Judging and its count").
 pub mod Alike
 pub mod Visits
 use mathlib.Core.Path.{_≡_, refl, sym, ap, ap₂, _∙_}

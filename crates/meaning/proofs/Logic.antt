@@ -1,3 +1,3 @@
--- Classical FM: the evaluator, and what bisimulations keep ("Steps", last paragraph). Assumes nothing.
+-- Classical FM: the evaluator, and what bisimulations keep ("Steps", last paragraph).
 pub mod Truth
 pub mod Bisimulation

@@ -1,5 +1,5 @@
 -- Messages are equal by the equations exactly when their normal forms are the same, and the test decides it ("Messages").
--- `normal` contracts each node over the normal forms of its parts. Assumes nothing.
+-- `normal` contracts each node over the normal forms of its parts.
 pub mod Same
 pub mod Contraction
 pub mod Renaming

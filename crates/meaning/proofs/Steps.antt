@@ -1,3 +1,3 @@
--- Steps: the list of steps is that of the rules, and names are new ("Steps"). Assumes nothing.
+-- Steps: the list of steps is that of the rules, and names are new ("Steps").
 pub mod Enumeration
 pub mod Invariant

@@ -1,4 +1,4 @@
--- Boolean tests as types, and a test that some element of a list passes. Assumes nothing.
+-- Boolean tests as types, and a test that some element of a list passes.
 use mathlib.Core.Path.{_≡_, refl, sym, ap, _∙_}
 use mathlib.Core.Bool.{Bool, true, false, _||_, true≢false}
 use mathlib.Core.List.{List, [], _∷_, _++_}

@@ -1,5 +1,5 @@
 -- The verdict is the answer that the rules give, and demand 3, both halves: exactly when a finding is accepted, and what an
--- accepted finding excludes. Assumes nothing.
+-- accepted finding excludes.
 pub mod Sorting
 pub mod Work
 use mathlib.Core.Path.{_≡_, refl, sym, ap, ap₂, _∙_, subst}

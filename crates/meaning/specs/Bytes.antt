@@ -1,5 +1,5 @@
 -- Bytes: processes and formulas, how they are written, when they are well-formed, and reading them ("Bytes", "Turned back for the
--- input"). Assumes nothing.
+-- input").
 pub mod Process
 pub mod Formula
 pub mod Encoding

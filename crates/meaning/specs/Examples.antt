@@ -1,5 +1,5 @@
 -- The table of worked examples: the cases of document 01 that are marked, and further ones on points that are easily mistaken.
--- The numbers were worked out from document 01, apart from these definitions. Assumes nothing.
+-- The numbers were worked out from document 01, apart from these definitions.
 pub mod Entry
 pub mod Material
 pub mod Cases

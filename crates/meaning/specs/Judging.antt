@@ -1,5 +1,4 @@
 -- Judging a formula at a state in one pass: its truth, its count, and whether a visit met a limit ("Judging and its count").
--- Assumes nothing.
 pub mod Limits
 pub mod Visits
 use Prim.Native.Nat.{ℕ, _+_}

@@ -1,3 +1,3 @@
--- Classical FM and strong early bisimulation ("Steps", last paragraph). Assumes nothing.
+-- Classical FM and strong early bisimulation ("Steps", last paragraph).
 pub mod Truth
 pub mod Bisimulation

@@ -1,4 +1,4 @@
--- Messages: terms, their equations and their normal forms ("Messages"). Assumes nothing.
+-- Messages: terms, their equations and their normal forms ("Messages").
 pub mod Term
 pub mod Equation
 pub mod Normal

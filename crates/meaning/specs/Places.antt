@@ -1,4 +1,4 @@
--- Places in a list and one-to-one correspondences, in which the theorem on the enumeration is stated. Assumes nothing.
+-- Places in a list and one-to-one correspondences, in which the theorem on the enumeration is stated.
 use mathlib.Core.Path.{_≡_}
 use mathlib.Core.List.{List, [], _∷_}
 

@@ -1,4 +1,4 @@
--- Steps: states, the step rules, and the steps of a state as a list ("Steps"). Assumes nothing.
+-- Steps: states, the step rules, and the steps of a state as a list ("Steps").
 pub mod State
 pub mod Offer
 pub mod Silent

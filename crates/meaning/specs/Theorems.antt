@@ -1,5 +1,5 @@
 -- The theorems, each stated over the definitions and nothing else. Their proofs are in proofs/, under the same names
--- with a small first letter. Assumes nothing.
+-- with a small first letter.
 use mathlib.Core.Path.{_≡_}
 use mathlib.Core.Logic.{_↔_, _⊎_}
 use mathlib.Core.Option.{some}

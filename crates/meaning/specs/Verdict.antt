@@ -1,5 +1,4 @@
 -- The verdict on a finding: four numbers, and the work bytes after ("Turned back for the input", "Turned back for the state").
--- Assumes nothing.
 pub mod Answered
 use Prim.Native.Nat.{ℕ, _+_}
 use mathlib.Core.Bool.{Bool, true, false, _||_}

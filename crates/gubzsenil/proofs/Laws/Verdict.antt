@@ -1,5 +1,5 @@
 -- A call keeps its promise: where the input is turned back, and where it is judged ("Turned back for the input"; "Turned back for the
--- state"). Assumes nothing.
+-- state").
 use mathlib.Core.Path.{_≡_, refl, sym, ap, _∙_}
 use mathlib.Core.Option.{none, some}
 use mathlib.Core.List.{List, _++_}
@@ -18,14 +18,14 @@ use Rattle.meaning.specs.Verdict.{Input as Trees, good, bad, workBytes, input, 
 use Rattle.meaning.specs.Verdict.Answered.{Formed, Sorted, formed}
 use Rattle.meaning.proofs.Test.{is-false}
 use Rattle.meaning.proofs.Verdict.Sorting.{sorted, sorted-once}
-use Rattle.numbers.proofs.Theorems.{never}
-use Rattle.reading.proofs.Theorems.{bytes-of}
-use Rattle.gubzsenil.specs.declared.answer.Answer.{Answer}
-use Rattle.gubzsenil.specs.declared.input.Input.{Input}
-use Rattle.gubzsenil.specs.declared.input.Input.the-variants.{Good, Bad}
-use Rattle.gubzsenil.specs.Answer.{numbers}
-use Rattle.gubzsenil.specs.Input.{refusal, refusalOf}
-use Rattle.gubzsenil.specs.Models.{JudgesBoth}
+use Rattle.decode_number.proofs.Theorems.{never}
+use Rattle.decode_slice.proofs.Theorems.{bytes-of}
+use Rattle.verdict_input.specs.declared.answer.Answer.{Answer}
+use Rattle.verdict_input.specs.declared.input.Input.{Input}
+use Rattle.verdict_input.specs.declared.input.Input.the-variants.{Good, Bad}
+use Rattle.verdict_input.specs.Answer.{numbers}
+use Rattle.verdict_input.specs.Input.{refusal, refusalOf}
+use Rattle.verdict_state.specs.Models.{JudgesBoth}
 use Rattle.gubzsenil.specs.Verdict.{Promise}
 use Rattle.gubzsenil.proofs.Theorems.{accepted-by-numbers, acceptable-excludes}
 

@@ -1,4 +1,4 @@
--- `gubzsenil::gubzsenil_verdict` meets its contract, by what was read. Assumes nothing.
+-- `gubzsenil::gubzsenil_verdict` meets its contract, by what was read.
 use borrow.Author.Needs.{needs}
 use Rattle.gubzsenil.proofs.Laws.Verdict.{Slices, slices-of, shorts, verdicts}
 use Rattle.gubzsenil.proofs.gubzsenil_verdict.Statement.{statement}

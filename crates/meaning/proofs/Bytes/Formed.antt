@@ -1,4 +1,4 @@
--- Slices that no rule refuses are the well-formed ones ("Turned back for the input", last paragraph). Assumes nothing.
+-- Slices that no rule refuses are the well-formed ones ("Turned back for the input", last paragraph).
 use mathlib.Core.Path.{_≡_, refl}
 use mathlib.Core.Logic.{_↔_}
 use Prim.Native.Nat.{ℕ}

@@ -1,5 +1,5 @@
 -- The laws of readers ("Turned back for the input"): how a property of what is found and one of what is refused go through the
--- steps of a reader, and what its tests come to. Assumes nothing.
+-- steps of a reader, and what its tests come to.
 use mathlib.Core.Path.{_≡_, refl}
 use mathlib.Core.Bool.{Bool, true, false, not}
 use Prim.Native.Nat.{ℕ, _≤_, _<_}

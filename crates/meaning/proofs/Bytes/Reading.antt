@@ -1,5 +1,5 @@
 -- Reading is exact ("Bytes"; "Turned back for the input"): it succeeds on the well-formed slices and on no others, and gives the
--- tree that the slice encodes. Assumes nothing.
+-- tree that the slice encodes.
 use mathlib.Core.Path.{_≡_, _∙_}
 use mathlib.Core.List.{List}
 use Prim.Native.Nat.{ℕ, _≤_}

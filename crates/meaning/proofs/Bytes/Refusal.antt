@@ -1,4 +1,4 @@
--- Models and formulas are refused exactly as the rules say, by number and place ("Turned back for the input"). Assumes nothing.
+-- Models and formulas are refused exactly as the rules say, by number and place ("Turned back for the input").
 pub mod Sound
 pub mod Number
 pub mod Kind

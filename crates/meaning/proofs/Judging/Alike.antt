@@ -1,5 +1,5 @@
 -- Whichever copy of a repl thread is opened, and however late, the same limits are met ("Judging and its count"): a copy opened
--- one name later has its own names one higher, and is otherwise the same. Assumes nothing.
+-- one name later has its own names one higher, and is otherwise the same.
 use Prim.Native.Nat.{ℕ, zero, suc, _+_, _-_, min, _≤_}
 use native.Mathlib.Omega.{arith}
 use native.Mathlib.Nat.{add-zero, add-suc}

@@ -1,4 +1,4 @@
--- Judging counts the visits and says whether one of them met a limit ("Judging and its count"). Assumes nothing.
+-- Judging counts the visits and says whether one of them met a limit ("Judging and its count").
 use mathlib.Core.Path.{_≡_, refl, sym, ap₂, _∙_}
 use mathlib.Core.Bool.{Bool, true, false, _||_}
 use mathlib.Core.List.{List, [], _∷_, _++_, map, flatMap}

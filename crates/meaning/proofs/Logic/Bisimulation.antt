@@ -1,5 +1,5 @@
 -- Related states make the same formulas true, so a formula that tells two states apart excludes every strong early
--- bisimulation that relates them ("Steps", last paragraph). Assumes nothing.
+-- bisimulation that relates them ("Steps", last paragraph).
 use mathlib.Core.Path.{_≡_, refl, ap}
 use mathlib.Core.Logic.{Iff·rfl, ∥∥₁-elim}
 use Prim.Native.Nat.{_+_}

@@ -1,4 +1,4 @@
--- The evaluator over the enumeration agrees with the truth table of classical FM ("Steps", last paragraph). Assumes nothing.
+-- The evaluator over the enumeration agrees with the truth table of classical FM ("Steps", last paragraph).
 use lib.Dec.{T-not, not-T}
 use lib.Ieee.Fits.{and-i}
 use mir.Facts.{and-yes}

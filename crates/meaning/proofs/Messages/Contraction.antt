@@ -1,5 +1,4 @@
 -- One step towards the normal form: the equation at the top of a message, applied where one applies ("Messages").
--- Assumes nothing.
 use mathlib.Core.Path.{_≡_, refl, sym, _∙_, ap}
 use mathlib.Core.Logic.{_↔_, _⊎_, inl, inr}
 use mathlib.Core.Bool.{Bool, true, false}

@@ -1,5 +1,4 @@
 -- Private names renamed one to one: the equations, normal forms, sizes and the test of equality are the same ("Messages").
--- Assumes nothing.
 use Prim.Native.Nat.{ℕ}
 use mathlib.Core.Path.{_≡_, refl, _∙_, ap, ap₂}
 use mathlib.Core.Logic.{∥∥₁-map}

@@ -1,4 +1,4 @@
--- The test `same` decides whether two messages are written alike ("Messages"). Assumes nothing.
+-- The test `same` decides whether two messages are written alike ("Messages").
 use mathlib.Core.Path.{_≡_, refl, ap}
 use mathlib.Core.Option.{some}
 use lib.Dec.{T, eqb→eq, eqb-refl}

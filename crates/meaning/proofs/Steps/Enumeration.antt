@@ -1,4 +1,4 @@
--- The enumeration lists each derivation of a step once and nothing else (demand 2, "Steps"). Assumes nothing.
+-- The enumeration lists each derivation of a step once and nothing else (demand 2, "Steps").
 pub mod Places
 pub mod Cuts
 pub mod Copies

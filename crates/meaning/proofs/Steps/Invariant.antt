@@ -1,5 +1,5 @@
 -- A state that is reached holds normal forms, with private names below its next one: the start state does, and every step keeps
--- this so ("Steps"). Assumes nothing.
+-- this so ("Steps").
 use Prim.Native.Nat.{ℕ, _≤_}
 use native.Mathlib.Omega.{arith}
 use native.Mathlib.Nat.{le-refl}

@@ -1,4 +1,4 @@
--- What becomes of an input is what the rules say ("Turned back for the input"). Assumes nothing.
+-- What becomes of an input is what the rules say ("Turned back for the input").
 use mathlib.Core.Path.{_≡_, refl, ap, _∙_}
 use mathlib.Core.Bool.{Bool, true, false}
 use mathlib.Core.List.{List}

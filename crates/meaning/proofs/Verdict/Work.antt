@@ -1,4 +1,4 @@
--- Every work byte after a call ("Turned back for the input", "Turned back for the state"). Assumes nothing.
+-- Every work byte after a call ("Turned back for the input", "Turned back for the state").
 use mathlib.Core.Path.{_≡_, refl}
 use mathlib.Core.Logic.{_⊎_, inl, inr, ⊎-elim}
 use mathlib.Core.Bool.{Bool, true, false, _||_}

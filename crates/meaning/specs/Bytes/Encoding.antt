@@ -1,4 +1,4 @@
--- Numbers, terms, processes and formulas as bytes ("Bytes"): the kind first, then the fields in order. Assumes nothing.
+-- Numbers, terms, processes and formulas as bytes ("Bytes"): the kind first, then the fields in order.
 use Prim.Native.Nat.{ℕ, _+_, _/_, _%_}
 use mathlib.Core.Bool.{true, false}
 use mathlib.Core.List.{List, [], _∷_, _++_}

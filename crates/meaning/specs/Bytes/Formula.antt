@@ -1,4 +1,4 @@
--- Formulas of classical FM and the labels of steps ("Bytes", the formula kinds). Assumes nothing.
+-- Formulas of classical FM and the labels of steps ("Bytes", the formula kinds).
 use Rattle.meaning.specs.Messages.Term.{Recipe}
 
 -- A label as written: its channel and its message are recipes.

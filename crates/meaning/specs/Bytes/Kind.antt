@@ -1,4 +1,4 @@
--- The kinds of terms, processes and formulas ("Bytes"). Assumes nothing.
+-- The kinds of terms, processes and formulas ("Bytes").
 use mathlib.Core.List.{List, [], _∷_}
 use Rattle.meaning.specs.Messages.Term.{Side, fst, snd, enc, dec, Binary, pair, cipher, mac}
 

@@ -1,4 +1,4 @@
--- How deep terms, processes and formulas are nested ("Turned back for the input", 7). Assumes nothing.
+-- How deep terms, processes and formulas are nested ("Turned back for the input", 7).
 use Prim.Native.Nat.{ℕ, _+_, max}
 use Rattle.meaning.specs.Messages.Term.{Term, leaf, proj, binary}
 use Rattle.meaning.specs.Bytes.Process.{Prefix, Process, nil, new, act, if, let-in, par, repl}

@@ -1,4 +1,4 @@
--- Reading a number at a position ("Bytes"; "Turned back for the input", 2 and 3). Assumes nothing.
+-- Reading a number at a position ("Bytes"; "Turned back for the input", 2 and 3).
 use Prim.Native.Nat.{ℕ, _+_, _-_, _*_}
 use mathlib.Core.Bool.{Bool, true, false, _&&_}
 use mathlib.Core.List.{List, [], _∷_}

@@ -1,4 +1,4 @@
--- Processes ("Bytes", the process kinds). Assumes nothing.
+-- Processes ("Bytes", the process kinds).
 use Rattle.meaning.specs.Messages.Term.{Term}
 
 -- What a thread can do by itself: output M on C (kind 2), or input on C (kind 3).

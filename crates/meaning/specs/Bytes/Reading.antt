@@ -1,5 +1,5 @@
 -- Reading terms, processes and formulas by position, with the refusals by number and place ("Turned back for the input").
--- What is left of a nesting limit goes along, and recursion falls on it. Assumes nothing.
+-- What is left of a nesting limit goes along, and recursion falls on it.
 use Prim.Native.Nat.{ℕ, zero, suc, _-_}
 use mathlib.Core.Bool.{Bool, true, false}
 use mathlib.Core.List.{List}

@@ -1,6 +1,5 @@
 -- What a refusal says, apart from the readers of trees ("Turned back for the input"). A slice is gone through from left to right, with
 -- the fields that are still due; a refusal names a place that is reached so and the rule that the number there breaks.
--- Assumes nothing.
 use mathlib.Core.Path.{_≡_}
 use Prim.Native.Nat.{ℕ, suc, _≤_, _<_, _-_}
 use mathlib.Core.List.{List, [], _∷_, _++_}

@@ -1,4 +1,4 @@
--- Which names, variables and aliases a term, a process or a formula may have ("Bytes"). Assumes nothing.
+-- Which names, variables and aliases a term, a process or a formula may have ("Bytes").
 use Prim.Native.Nat.{ℕ, suc, _+_, _≤_, _<_}
 use Rattle.meaning.specs.Messages.Term.{Term, Leaf, leaf, proj, binary, name, variable}
 use Rattle.meaning.specs.Bytes.Process.{Prefix, Process, nil, new, act, if, let-in, par, repl}

@@ -1,4 +1,4 @@
--- Bytes that stand at a position of a slice ("Bytes"). Assumes nothing.
+-- Bytes that stand at a position of a slice ("Bytes").
 use mathlib.Core.Path.{_≡_}
 use mathlib.Core.List.{List, _++_}
 use Prim.Native.Nat.{ℕ, _+_}

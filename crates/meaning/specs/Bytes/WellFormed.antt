@@ -1,5 +1,5 @@
 -- Well-formed models and formulas, apart from any reader ("Turned back for the input", last paragraph): some tree
--- with nothing out of scope and nothing too deep is written as this slice, which has at most 4,096 bytes. Assumes nothing.
+-- with nothing out of scope and nothing too deep is written as this slice, which has at most 4,096 bytes.
 use mathlib.Core.Path.{_≡_}
 use mathlib.Core.List.{List, [], _∷_}
 use Prim.Native.Nat.{ℕ, _≤_, _<_}

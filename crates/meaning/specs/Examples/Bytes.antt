@@ -1,5 +1,4 @@
--- Worked examples on messages and on bytes: readings that are easily mistaken ("Messages", "Turned back for the input"). Assumes
--- nothing.
+-- Worked examples on messages and on bytes: readings that are easily mistaken ("Messages", "Turned back for the input").
 use mathlib.Core.List.{List, [], _∷_, _++_}
 use lib.ListN.{replicate}
 use Rattle.meaning.specs.Messages.Term.{proj, binary, fst, snd, enc, dec, pair, cipher}

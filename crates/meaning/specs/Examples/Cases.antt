@@ -1,4 +1,4 @@
--- Worked examples: the cases 1 to 7 that document 01 marks as proved ("Judged by hand"). Assumes nothing.
+-- Worked examples: the cases 1 to 7 that document 01 marks as proved ("Judged by hand").
 use mathlib.Core.List.{List, [], _∷_}
 use Rattle.meaning.specs.Messages.Term.{binary, enc, dec, cipher}
 use Rattle.meaning.specs.Bytes.Process.{Prefix, nil, new, act, par, repl}

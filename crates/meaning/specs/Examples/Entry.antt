@@ -1,4 +1,4 @@
--- The entries of the table of worked examples, and what it is that one holds. Assumes nothing.
+-- The entries of the table of worked examples, and what it is that one holds.
 use mathlib.Core.Path.{_≡_}
 use mathlib.Core.Bool.{true, false}
 use mathlib.Core.List.{List, map}

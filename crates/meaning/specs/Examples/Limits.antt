@@ -1,4 +1,4 @@
--- Worked examples on the limits and on which visits meet them ("Judging and its count"). Assumes nothing.
+-- Worked examples on the limits and on which visits meet them ("Judging and its count").
 use mathlib.Core.List.{List, [], _∷_}
 use Rattle.meaning.specs.Messages.Term.{binary, enc, dec, cipher}
 use Rattle.meaning.specs.Bytes.Process.{Prefix, nil, new, act, if, let-in, par, repl}

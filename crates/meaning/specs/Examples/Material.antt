@@ -1,4 +1,4 @@
--- What the worked examples are made of. Assumes nothing.
+-- What the worked examples are made of.
 use mathlib.Core.List.{List, [], _∷_}
 use Prim.Native.Nat.{ℕ, zero, suc}
 use Rattle.meaning.specs.Messages.Term.{Term, Message, leaf, proj, binary, fst, pair, mac, name, variable, public}

@@ -1,4 +1,4 @@
--- Worked examples on steps: which there are, in which order, and where they lead ("Steps"). Assumes nothing.
+-- Worked examples on steps: which there are, in which order, and where they lead ("Steps").
 use mathlib.Core.List.{List, [], _∷_}
 use Rattle.meaning.specs.Messages.Term.{leaf, private}
 use Rattle.meaning.specs.Bytes.Process.{Prefix, nil, new, act, par, repl}

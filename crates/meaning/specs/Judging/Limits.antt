@@ -1,5 +1,5 @@
 -- The limits of states and recipes ("Judging and its count"). Nothing but judging knows them: no
--- definition of steps, truth or bisimulation uses this file. Assumes nothing.
+-- definition of steps, truth or bisimulation uses this file.
 use Prim.Native.Nat.{ℕ, suc, _+_}
 use mathlib.Core.Bool.{Bool, true, false, _||_}
 use mathlib.Core.List.{List, [], _∷_}

@@ -1,5 +1,5 @@
 -- The visits of judging, without short cuts ("Judging and its count"): the states that are reached, whether a visit meets a
--- limit, and the list of all visits, whose length is the count. Assumes nothing.
+-- limit, and the list of all visits, whose length is the count.
 use Prim.Native.Nat.{ℕ}
 use mathlib.Core.Path.{_≡_}
 use mathlib.Core.Bool.{Bool, true, false, _||_}

@@ -1,4 +1,4 @@
--- Strong early bisimulation ("Steps", last paragraph). Assumes nothing.
+-- Strong early bisimulation ("Steps", last paragraph).
 use mathlib.Core.Path.{_≡_}
 use mathlib.Core.Logic.{_↔_}
 use Prim.Native.Nat.{ℕ}

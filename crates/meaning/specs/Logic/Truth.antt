@@ -1,5 +1,5 @@
 -- Classical FM: truth as the table has it, over the step rules, and its evaluator over the enumeration ("Steps", last
--- paragraph). Assumes nothing.
+-- paragraph).
 use mathlib.Core.Bool.{Bool, false, _&&_, _||_}
 use mathlib.Core.Bool
 use mathlib.Core.List.{List, [], _∷_}

@@ -1,4 +1,4 @@
--- The equations of messages and the equality that they generate ("Messages"). Assumes nothing.
+-- The equations of messages and the equality that they generate ("Messages").
 use Rattle.meaning.specs.Messages.Term.{Side, fst, snd, Direction, opposite, Binary, pair, cipher, Tree, leaf, proj, binary}
 
 infix 4 _⇝_

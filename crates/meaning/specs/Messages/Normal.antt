@@ -1,4 +1,4 @@
--- The normal form of a message, from its leaves up, and the test of equality by it ("Messages"). Assumes nothing.
+-- The normal form of a message, from its leaves up, and the test of equality by it ("Messages").
 use Prim.Native.Nat.{ℕ}
 use mathlib.Core.Bool.{Bool, true, false, _&&_}
 use lib.Dec.{eqb}

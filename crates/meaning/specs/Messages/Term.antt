@@ -1,5 +1,5 @@
 -- Terms, recipes and messages ("Bytes", the term kinds). They are one type over the leaves: terms have public names and
--- variables, recipes have public names and aliases, messages have public and private names. Assumes nothing.
+-- variables, recipes have public names and aliases, messages have public and private names.
 use Prim.Native.Nat.{ℕ, _+_}
 
 -- fst and snd are one kind with a side.

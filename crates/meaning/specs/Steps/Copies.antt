@@ -1,4 +1,4 @@
--- Recursion over threads along the copies of repl threads ("Steps"). Assumes nothing.
+-- Recursion over threads along the copies of repl threads ("Steps").
 use Prim.Native.Nat.{ℕ, suc}
 use mathlib.Core.Bool.{true, false}
 use mathlib.Core.List.{List, [], _∷_, _++_, map}

@@ -1,4 +1,4 @@
--- The steps of a state as a list, in document 01's order ("Steps"). Assumes nothing.
+-- The steps of a state as a list, in document 01's order ("Steps").
 use Prim.Native.Nat.{ℕ}
 use mathlib.Core.Bool.{true, false}
 use mathlib.Core.List.{List, [], _∷_, _++_, map, flatMap}

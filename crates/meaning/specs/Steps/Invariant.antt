@@ -1,5 +1,5 @@
 -- What holds of every state that is reached ("Steps", "Messages"): its messages are in normal form, and their private names are
--- those that were made. Assumes nothing.
+-- those that were made.
 use Prim.Native.Nat.{ℕ, _<_}
 use Rattle.meaning.specs.Messages.Term.{Name, public, private, Message, leaf, proj, binary}
 use Rattle.meaning.specs.Messages.Equation.{Normal}

@@ -1,4 +1,4 @@
--- What threads offer ("Steps"): the rules on offers, a constructor for each sentence. Assumes nothing.
+-- What threads offer ("Steps"): the rules on offers, a constructor for each sentence.
 use Prim.Native.Nat.{ℕ}
 use mathlib.Core.List.{List, [], _∷_, _++_}
 use Rattle.meaning.specs.Bytes.Process.{Prefix, Process}

@@ -1,4 +1,4 @@
--- Silent steps ("Steps"): the rules, a constructor for each sentence. Assumes nothing.
+-- Silent steps ("Steps"): the rules, a constructor for each sentence.
 use Prim.Native.Nat.{ℕ}
 use mathlib.Core.List.{List, [], _∷_, _++_}
 use Rattle.meaning.specs.Messages.Term.{Term}

@@ -1,4 +1,4 @@
--- Threads, states, settling and the start state ("Steps"). Assumes nothing.
+-- Threads, states, settling and the start state ("Steps").
 use Prim.Native.Nat.{ℕ, suc}
 use mathlib.Core.Bool.{true, false}
 use mathlib.Core.List.{List, [], _∷_, _++_}

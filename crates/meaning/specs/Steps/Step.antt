@@ -1,4 +1,4 @@
--- Steps with their labels, and the states that they lead to ("Steps"). Assumes nothing.
+-- Steps with their labels, and the states that they lead to ("Steps").
 use Prim.Native.Nat.{ℕ}
 use mathlib.Core.List.{List}
 use Rattle.meaning.specs.Messages.Term.{Term, Recipe}

@@ -1,5 +1,5 @@
 -- The answer to each input, rule by rule, apart from the verdict that works it out ("Turned back for the input", "Turned back
--- for the state"). Assumes nothing.
+-- for the state").
 use mathlib.Core.Path.{_≡_}
 use mathlib.Core.Bool.{true}
 use mathlib.Core.List.{List}

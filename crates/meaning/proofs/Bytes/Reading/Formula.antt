@@ -1,5 +1,5 @@
 -- Formulas ("Bytes"): what is read stands there, in scope and within the nesting limits (sound), and all that does so is read
--- (complete). Assumes nothing.
+-- (complete).
 use mathlib.Core.Path.{_≡_, refl}
 use mathlib.Core.List.{List, [], _∷_}
 use Prim.Native.Nat.{ℕ, zero, suc, _+_, _-_, _≤_, _<_}

@@ -1,5 +1,4 @@
 -- Kinds ("Bytes"), for any list of them: what is read stands there (sound), and what stands there is read (complete).
--- Assumes nothing.
 use mathlib.Core.Path.{_≡_, refl}
 use mathlib.Core.Bool.{Bool}
 use mathlib.Core.List.{List, [], _∷_, map}

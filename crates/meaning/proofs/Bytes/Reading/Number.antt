@@ -1,5 +1,4 @@
 -- Numbers ("Bytes", first paragraph): what is read stands there (sound), and what stands there is read (complete).
--- Assumes nothing.
 use mathlib.Core.Path.{_≡_, refl, ap, _∙_}
 use mathlib.Core.Bool.{_&&_}
 use mathlib.Core.List.{List, [], _∷_, _++_}

@@ -1,4 +1,4 @@
--- Laws of bytes that stand at a place of a slice ("Bytes"). Assumes nothing.
+-- Laws of bytes that stand at a place of a slice ("Bytes").
 use mathlib.Core.Path.{_≡_, refl, sym, _∙_}
 use mathlib.Core.List.{List, [], _∷_, _++_, foldl, append-assoc, append-nil}
 use Prim.Native.Nat.{ℕ, _+_, _≤_}

@@ -1,5 +1,5 @@
 -- Terms ("Bytes"): what is read stands there, in scope and within the nesting limit (sound), and all that does so is read
--- (complete). Assumes nothing.
+-- (complete).
 use mathlib.Core.Path.{_≡_, refl}
 use mathlib.Core.List.{List, [], _∷_}
 use mathlib.Core.Option.{some}

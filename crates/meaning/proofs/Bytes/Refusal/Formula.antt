@@ -1,4 +1,4 @@
--- Formulas are refused truly, a seventeenth step formula among the refusals ("Turned back for the input"). Assumes nothing.
+-- Formulas are refused truly, a seventeenth step formula among the refusals ("Turned back for the input").
 use Prim.Native.Nat.{ℕ, zero, suc, _<_, _-_}
 use mathlib.Core.Path.{_≡_}
 use mathlib.Core.Bool.{not}

@@ -1,4 +1,4 @@
--- Kinds are refused truly: 4 and 7 ("Turned back for the input"). Assumes nothing.
+-- Kinds are refused truly: 4 and 7 ("Turned back for the input").
 use Prim.Native.Nat.{ℕ, zero, suc, _≤_, _<_}
 use mathlib.Core.Path.{_≡_, refl}
 use mathlib.Core.Bool.{Bool, not}

@@ -1,4 +1,4 @@
--- Numbers are refused truly: 2 and 3 ("Turned back for the input"). Assumes nothing.
+-- Numbers are refused truly: 2 and 3 ("Turned back for the input").
 use Prim.Native.Nat.{ℕ, zero, suc, _≤_}
 use mathlib.Core.Path.{_≡_}
 use mathlib.Core.Bool.{not, _&&_}

@@ -1,4 +1,4 @@
--- Processes are refused truly, a thirteenth variable among the refusals ("Turned back for the input"). Assumes nothing.
+-- Processes are refused truly, a thirteenth variable among the refusals ("Turned back for the input").
 use Prim.Native.Nat.{ℕ, zero, suc, _<_}
 use mathlib.Core.Path.{_≡_}
 use mathlib.Core.Bool.{not}

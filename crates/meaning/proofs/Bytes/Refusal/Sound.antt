@@ -1,4 +1,4 @@
--- Readers whose refusals are true ("Turned back for the input"). Assumes nothing.
+-- Readers whose refusals are true ("Turned back for the input").
 use Prim.Native.Nat.{ℕ, _≤_}
 use mathlib.Core.List.{List, [], _∷_}
 use lib.ListN.{length}

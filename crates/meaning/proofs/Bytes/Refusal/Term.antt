@@ -1,4 +1,4 @@
--- Terms are refused truly, 5 and 6 among the refusals ("Turned back for the input"). Assumes nothing.
+-- Terms are refused truly, 5 and 6 among the refusals ("Turned back for the input").
 use Prim.Native.Nat.{ℕ, zero, suc}
 use mathlib.Core.List.{List, _++_}
 use lib.Dec.{leb, ltb, leb→le, ltb→lt, nleb→lt, nltb→le}

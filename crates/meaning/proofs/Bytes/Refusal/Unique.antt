@@ -1,5 +1,5 @@
 -- A slice has at most one refusal, and a reader whose refusals are true gives it ("Turned back for the input"): the pass over the
--- slice has one way on from each point. Assumes nothing.
+-- slice has one way on from each point.
 use Prim.Native.Nat.{ℕ, zero, suc, pred, _≤_, _<_}
 use mathlib.Core.Path.{_≡_, refl, subst}
 use mathlib.Core.Bool.{and-false}

@@ -1,4 +1,4 @@
--- Recursion and induction over threads along the copies of repl threads ("Steps"), for whatever is computed along copies: here offers and silent steps, elsewhere the limits. Assumes nothing.
+-- Recursion and induction over threads along the copies of repl threads ("Steps"), for whatever is computed along copies: here offers and silent steps, elsewhere the limits.
 use Prim.Native.Nat.{ℕ}
 use mathlib.Core.Path.{_≡_, refl, sym, _∙_, ap, ap₂, fun-ext}
 use mathlib.Core.Bool.{true, false}

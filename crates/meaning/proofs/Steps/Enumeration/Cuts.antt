@@ -1,4 +1,4 @@
--- What a list gives cut by cut: its splits are its cuts, and what a list of threads gives thread by thread ("Steps"), by one law for offers and for silent steps. Assumes nothing.
+-- What a list gives cut by cut: its splits are its cuts, and what a list of threads gives thread by thread ("Steps"), by one law for offers and for silent steps.
 use Prim.Native.Nat.{ℕ}
 use mathlib.Core.Path.{_≡_, refl, _∙_, ap, ap₂, fun-ext}
 use mathlib.Core.Logic.{inl, inr}

@@ -1,4 +1,4 @@
--- The offers of a thread and of a list of threads, enumerated ("Steps", what threads offer). Assumes nothing.
+-- The offers of a thread and of a list of threads, enumerated ("Steps", what threads offer).
 use Prim.Native.Nat.{ℕ}
 use mathlib.Core.Path.{_≡_, refl, ap}
 use mathlib.Core.List.{List, [], _∷_, _++_, map}

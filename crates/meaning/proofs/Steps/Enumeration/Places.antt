@@ -1,5 +1,5 @@
 -- One-to-one correspondences as equations between types, and what it is that a list has each derivation once and nothing else
--- ("Steps"). Assumes nothing.
+-- ("Steps").
 use mathlib.Core.Path.{_≡_, refl, sym, _∙_, ap, ap₂}
 use mathlib.Core.Logic.{_⊎_, inl, inr, _↔_}
 use mathlib.Core.Bool.{Bool, true, false}

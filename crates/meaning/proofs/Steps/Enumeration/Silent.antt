@@ -1,4 +1,4 @@
--- The silent steps of a thread and of a list of threads, enumerated ("Steps", the silent steps). Assumes nothing.
+-- The silent steps of a thread and of a list of threads, enumerated ("Steps", the silent steps).
 use Prim.Native.Nat.{ℕ}
 use mathlib.Core.Path.{_≡_, refl, ap, ap₂}
 use mathlib.Core.Logic.{_⊎_, inl, inr}

@@ -1,5 +1,5 @@
 -- Settling keeps messages in normal form and makes the private names that it uses: names below the next one before are below the
--- next one after ("Steps", settling). Assumes nothing.
+-- next one after ("Steps", settling).
 use Prim.Native.Nat.{ℕ, suc, _≤_}
 use native.Mathlib.Omega.{arith}
 use native.Mathlib.Nat.{le-refl}

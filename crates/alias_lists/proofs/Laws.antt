@@ -1,2 +1,0 @@
--- The laws by which the functions meet their contracts. Assumes nothing.
-pub mod Aliases

@@ -1,0 +1,3 @@
+-- The laws by which numbers are read.
+pub mod Number
+pub mod Bounded

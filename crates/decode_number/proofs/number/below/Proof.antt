@@ -1,0 +1,16 @@
+-- `decode_number::number::below` meets its contract, by what the number was found to be.
+use borrow.Author.Needs.{needs}
+use Rattle.decode_number.proofs.Laws.Bounded.{bounds}
+use Rattle.decode_number.proofs.number.below.Statement.{statement}
+use Rattle.decode_number.proofs.number.below.Tie as tie
+
+pub below-spec : {M : Type 1} → statement M
+below-spec = tie.close (tie.spec
+    (λ c κs. search needs)
+    (λ c. search needs)
+    (λ c. search needs)
+    (λ c. search needs)
+    (λ c. search (needs, bounds))
+    (λ c. search (needs, bounds))
+    (λ c. search (needs, bounds))
+    (λ c. search (needs, bounds)))

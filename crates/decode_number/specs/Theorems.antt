@@ -1,0 +1,15 @@
+-- The theorems on answers ("Turned back for the input"). Their proofs are in proofs/Theorems.antt, under the same names with a
+-- small first letter.
+use mathlib.Core.Path.{_≡_}
+use mathlib.Core.List.{List}
+use Prim.Native.Nat.{ℕ}
+use Rattle.decode_number.specs.declared.answer.Answer.{Answer}
+use Rattle.decode_number.specs.declared.number.Numeral.{Numeral}
+use Rattle.decode_number.specs.Answer.{answer, numeral}
+
+-- A promise leaves one answer only.
+abbrev pub AnswersFixed : Type 0
+AnswersFixed = (a b : Answer) → answer a ≡ answer b → a ≡ b
+
+abbrev pub NumeralsFixed : Type 0
+NumeralsFixed = (s : List ℕ) (at : ℕ) (a b : Numeral) → numeral s at a ≡ numeral s at b → a ≡ b

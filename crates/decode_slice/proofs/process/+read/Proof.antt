@@ -1,0 +1,46 @@
+-- `decode_slice::process::read` meets its contract, by the layout of processes. The measure is the number of process nodes left.
+use mathlib.Core.Path.{sym, _∙_}
+use Prim.Native.Nat.{ℕ, _<_}
+use borrow.Author.Needs.{needs}
+use borrow.Fn.Kinds.{In}
+use borrow.Fn.PlainCycle.{Measures, is, falls, and}
+use Rattle.decode_term.proofs.Laws.Headed.{headed}
+use Rattle.decode_term.proofs.Laws.Node.{nodes}
+use Rattle.decode_slice.proofs.Laws.Scope.{scopes}
+use Rattle.decode_slice.proofs.Laws.Sorts.{process-layout}
+use Rattle.decode_slice.proofs.process.read.Reads as read
+use Rattle.decode_slice.proofs.process.read.Kinds as read-kinds
+use Rattle.decode_slice.proofs.process.+read.Lts-read as read-lts
+use Rattle.decode_layout.proofs.layout.process.Reads as layout-reads
+use Rattle.decode_slice.proofs.process.head.Reads as head-reads
+use Rattle.decode_slice.proofs.process.+read.{statement}
+use Rattle.decode_slice.proofs.process.+read.Tie.{close}
+
+abbrev left : Measures 1 read-kinds.ps ℕ
+left κs a = a .1 .1 .1 .0
+
+abbrev read-at : ℕ → In 1 read-kinds.ps
+read-at t = and 1 read-kinds.ps (is 1 read-kinds.ps left t) read.Pre
+
+abbrev read-below : ℕ → In 1 read-kinds.ps
+read-below t = and 1 read-kinds.ps (falls 1 read-kinds.ps _<_ left t) read.Pre
+
+pub +read-spec : {M : Type 1} → statement M
++read-spec = close left λ t. read-lts.spec
+    (head-reads.Asked, head-reads.Learnt, layout-reads.Asked, layout-reads.Learnt, read-below t, read.Post) (read-at t) read.Post
+    (λ c κs. search needs)
+    (λ c. search needs)
+    (λ c κs. search (needs, headed))
+    (λ c. search (needs, nodes, scopes) ∙ sym (process-layout _ _ _ _))
+    (λ c. search (needs, scopes))
+    (λ c. search (needs, headed))
+    (λ c κs. search (needs, headed))
+    (λ c. search (needs, nodes, scopes) ∙ sym (process-layout _ _ _ _))
+    (λ c. search needs)
+    (λ c. search (needs, headed))
+    (λ c κs. search (needs, headed))
+    (λ c. search needs)
+    (λ c. search needs)
+    (λ c. search (needs, nodes, scopes) ∙ sym (process-layout _ _ _ _))
+    (λ c. search (needs, nodes, scopes) ∙ sym (process-layout _ _ _ _))
+    (λ c. search (needs, nodes, scopes) ∙ sym (process-layout _ _ _ _))

@@ -1,8 +1,0 @@
--- `gubzsenil::answer::outcome` meets its contract. Assumes nothing.
-use borrow.Author.Needs.{needs}
-use Rattle.gubzsenil.proofs.answer.outcome.Statement.{statement}
-use Rattle.gubzsenil.proofs.answer.outcome.Tie as tie
-
-pub outcome-spec : {M : Type 1} → statement M
-outcome-spec = tie.close (tie.spec
-    (λ c. search needs))

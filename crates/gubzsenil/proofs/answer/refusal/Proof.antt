@@ -1,8 +1,0 @@
--- `gubzsenil::answer::refusal` meets its contract. Assumes nothing.
-use borrow.Author.Needs.{needs}
-use Rattle.gubzsenil.proofs.answer.refusal.Statement.{statement}
-use Rattle.gubzsenil.proofs.answer.refusal.Tie as tie
-
-pub refusal-spec : {M : Type 1} → statement M
-refusal-spec = tie.close (tie.spec
-    (λ c. search needs))

@@ -1,6 +1,0 @@
-pub mod Judged
-pub mod Reached
-pub mod Known
-pub mod Visit
-pub mod Steps
-pub mod Model

@@ -1,5 +1,0 @@
--- The laws by which the functions meet their contracts. Assumes nothing.
-pub mod SeekMoves
-pub mod LabelledBehind
-pub mod LabelledMoves
-pub mod Labelled

@@ -1,0 +1,20 @@
+// The number of a public name, a variable or an alias, read again ("Bytes").
+use decode_number::number;
+use decode_number::number::Numeral;
+ghost use Prim.Native.Nat.{_<_};
+ghost use Rattle.message_term.specs.Inner.{FieldAt};
+
+// A number, and where it ends.
+pub(crate) struct Field(pub usize, pub usize);
+
+// The number at a position. Where none stands, the answer is open. The remainder changes no number that was read, and bounds it.
+pub(crate) fn read(s: &[u8], at: usize) -> Field
+    ensures { λ r. ⌜ r .0 < 16384 ⌝ }
+    ensures { λ r. ⌜ FieldAt (now (s .entry)) at (r .0) (r .1) ⌝ }
+{
+    match number::read(s, at) {
+        Numeral::Value(n, next) => Field(n % 16384, next),
+        Numeral::Truncated => Field(0, at),
+        Numeral::Malformed => Field(0, at),
+    }
+}

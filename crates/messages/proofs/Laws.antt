@@ -1,3 +1,0 @@
--- The laws by which the functions meet their contracts. Assumes nothing.
-pub mod Normal
-pub mod Surviving

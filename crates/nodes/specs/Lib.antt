@@ -1,4 +1,0 @@
-pub mod Encoding
-pub mod Buffer
-pub mod Run
-pub mod Theorems

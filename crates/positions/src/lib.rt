@@ -1,1 +1,0 @@
-// What the walks of `states` find and write, told against the definitions: theorems in proofs/, stated in specs/. This crate has no code.

@@ -1,8 +1,0 @@
--- `repls::copies::judge` meets its contract. Assumes nothing.
-use borrow.Author.Needs.{needs}
-use Rattle.repls.proofs.copies.judge.Statement.{statement}
-use Rattle.repls.proofs.copies.judge.Tie as tie
-
-pub judge-spec : {M : Type 1} → statement M
-judge-spec = tie.close (tie.spec
-    (λ c. search needs))

@@ -1,2 +1,0 @@
-// What a walk does at a repl thread: which of its copies are opened, and what becomes of the thread itself ("Steps"; "Judging and its count").
-pub mod copies;

@@ -1,9 +1,0 @@
--- The laws by which the functions meet their contracts. Assumes nothing.
-pub mod Counting
-pub mod Standing
-pub mod Fixed
-pub mod Rests
-pub mod RestsMoves
-pub mod RestsThread
-pub mod RestsSettled
-pub mod Settled

@@ -1,3 +1,0 @@
-pub mod Counting
-pub mod Rests
-pub mod Settled

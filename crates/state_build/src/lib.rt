@@ -1,0 +1,2 @@
+// The traversal that writes the threads as a step leaves them ("Steps").
+pub mod build;

@@ -1,0 +1,6 @@
+pub mod Head
+pub mod Count
+pub mod News
+pub mod Traversal
+pub mod Traverse
+pub mod Settled

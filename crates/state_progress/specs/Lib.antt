@@ -1,0 +1,4 @@
+pub mod Progress
+pub mod Represented
+pub mod TraversalResult
+pub mod Written

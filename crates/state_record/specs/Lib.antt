@@ -1,0 +1,4 @@
+pub mod Place
+pub mod Room
+pub mod Record
+pub mod Stored

@@ -1,0 +1,2 @@
+// The traversal that seeks an offer, copies included ("Steps").
+pub mod seek;

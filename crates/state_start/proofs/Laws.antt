@@ -1,0 +1,2 @@
+-- The laws by which the functions meet their contracts.
+pub mod Form

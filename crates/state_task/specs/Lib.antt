@@ -1,0 +1,4 @@
+pub mod Machine
+pub mod Place
+pub mod Copies
+pub mod Thread

@@ -1,8 +1,0 @@
--- `states::progress::hit` meets its contract. Assumes nothing.
-use borrow.Author.Needs.{needs}
-use Rattle.states.proofs.Laws.Renaming.{found-there}
-use Rattle.states.proofs.progress.hit.Statement.{statement}
-use Rattle.states.proofs.progress.hit.Tie as tie
-
-pub hit-spec : {M : Type 1} → statement M
-hit-spec = tie.close (tie.spec (λ c. search needs) (λ c. search (needs, found-there)))

@@ -1,0 +1,27 @@
+-- What each traversal comes to, from the positions of offers up.
+pub mod Located
+pub mod Last
+pub mod Increasing
+pub mod Block
+pub mod Pairs
+pub mod CopyStep
+pub mod Clear
+pub mod Traverses
+pub mod SeekFirst
+pub mod Copies
+pub mod Meant
+pub mod SeekIn
+pub mod Find
+pub mod Everywhere
+pub mod Leads
+pub mod Rebuilt
+pub mod Growth
+pub mod GrowthCopies
+pub mod SpreadRoom
+pub mod Writing
+pub mod Marks
+pub mod Traversal
+pub mod Building
+pub mod BuildingBoth
+pub mod BuildingIn
+pub mod Built

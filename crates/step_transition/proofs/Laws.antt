@@ -1,0 +1,27 @@
+-- The laws by which the functions meet their contracts.
+pub mod LimitsLeft
+pub mod LimitsReplaced
+pub mod Allowed
+pub mod LimitsPairs
+pub mod LimitsOutcome
+pub mod Capacity
+pub mod MovesLists
+pub mod MovesFocuses
+pub mod MovesThread
+pub mod Moves
+pub mod CopyMoves
+pub mod SplitLists
+pub mod CopyMovesOrder
+pub mod CopyMovesResumed
+pub mod CopyMovesSilent
+pub mod Records
+pub mod LimitsJoints
+pub mod LimitsFocuses
+pub mod Limits
+pub mod MovesOthers
+pub mod MovesSilent
+pub mod Opened
+pub mod Start
+pub mod Threads
+pub mod Roomy
+pub mod Shown

@@ -1,0 +1,13 @@
+pub mod Focus
+pub mod Moves
+pub mod Outcome
+pub mod Step
+pub mod Threads
+pub mod CopyOffers
+pub mod CopyMoves
+pub mod Limits
+pub mod WithinLimits
+pub mod Behind
+pub mod Moving
+pub mod Resumption
+pub mod Theorems

@@ -1,0 +1,4 @@
+pub mod Counting
+pub mod Rests
+pub mod Settled
+pub mod Rest

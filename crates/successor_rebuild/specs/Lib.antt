@@ -1,0 +1,4 @@
+pub mod Block
+pub mod Kind
+pub mod Rebuild
+pub mod Tasks

@@ -1,9 +1,0 @@
--- The laws by which the functions meet their contracts. Assumes nothing.
-pub mod Bound
-pub mod Field
-pub mod Leaf
-pub mod Reduce
-pub mod Term
-pub mod Work
-pub mod Inner
-pub mod Room

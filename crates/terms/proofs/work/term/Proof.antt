@@ -1,7 +1,0 @@
--- `terms::work::term` meets its contract: it works a term with all its nodes left. Assumes nothing.
-use borrow.Author.Needs.{needs}
-use Rattle.terms.proofs.work.term.Statement.{statement}
-use Rattle.terms.proofs.work.term.Tie as tie
-
-pub term-spec : {M : Type 1} → statement M
-term-spec = tie.close (tie.spec (λ c κs. search needs) (λ c. search needs) (λ c. search needs))

@@ -1,0 +1,3 @@
+-- The laws by which the functions meet their contracts.
+pub mod Input
+pub mod Place

@@ -1,0 +1,13 @@
+-- `verdict_state::models::build` meets its contract.
+use borrow.Author.Needs.{needs}
+use Rattle.verdict_state.proofs.Laws.Judged.{judges-both}
+use Rattle.verdict_state.proofs.models.build.Statement.{statement}
+use Rattle.verdict_state.proofs.models.build.Tie as tie
+
+pub build-spec : {M : Type 1} → statement M
+build-spec = tie.close (tie.spec
+    (λ c κs. search needs)
+    (λ c κs. search needs)
+    (λ c. search needs)
+    (λ c. search needs)
+    (λ c. (search needs, search (needs, judges-both))))

@@ -1,0 +1,2 @@
+pub mod Models
+pub mod Model

@@ -1,6 +1,0 @@
--- The laws by which the functions meet their contracts. Assumes nothing.
-pub mod Reach
-pub mod ReachDown
-pub mod ReachPart
-pub mod ReachOffers
-pub mod ReachKinds
