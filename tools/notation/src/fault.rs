@@ -1,29 +1,44 @@
 //! What is wrong with a text, and where.
 
 use std::fmt;
+use std::sync::Arc;
 
 /// A line and a column, both counted from 1.
-#[derive(Clone, Copy, Debug, PartialEq, Eq)]
+#[derive(Clone, Copy, Debug, PartialEq, Eq, PartialOrd, Ord)]
 pub struct Place {
     pub line: usize,
     pub column: usize,
 }
 
+/// An abbreviation in whose text something stands, and where it is used.
+#[derive(Debug, PartialEq, Eq)]
+pub struct Use {
+    pub word: String,
+    pub place: Place,
+    pub outer: Within,
+}
+
+/// The abbreviations around a place, the innermost first.
+pub type Within = Option<Arc<Use>>;
+
+#[derive(Clone, Copy, Debug, PartialEq, Eq)]
+pub enum Cause {
+    /// It is not written as the grammar has it.
+    Syntax,
+    /// A word stands for nothing, for two things, or for something else.
+    Scope,
+    /// The bytes would break the rule of this number (document 01, "Turned back for the input").
+    Rule(u32),
+    /// It is allowed, but hardly meant.
+    Doubt,
+}
+
 #[derive(Clone, Debug, PartialEq, Eq)]
 pub struct Fault {
     pub place: Place,
+    pub cause: Cause,
     pub message: String,
-}
-
-impl Fault {
-    pub fn new(place: Place, message: impl Into<String>) -> Fault {
-        Fault { place, message: message.into() }
-    }
-
-    /// The same fault, met in an abbreviation that is used at `place`.
-    pub fn within(self, word: &str, place: Place) -> Fault {
-        Fault { message: format!("{} (in `{word}`, used at {place})", self.message), ..self }
-    }
+    pub within: Within,
 }
 
 impl fmt::Display for Place {
@@ -34,6 +49,19 @@ impl fmt::Display for Place {
 
 impl fmt::Display for Fault {
     fn fmt(&self, f: &mut fmt::Formatter<'_>) -> fmt::Result {
-        write!(f, "{}: {}", self.place, self.message)
+        write!(f, "{}: {}", self.place, self.message)?;
+        let mut within = &self.within;
+        while let Some(used) = within {
+            write!(f, " (in `{}`, used at {})", used.word, used.place)?;
+            within = &used.outer;
+        }
+        Ok(())
     }
+}
+
+/// The faults in the order of their places, of those at one place the first.
+pub fn in_order(mut faults: Vec<Fault>) -> Vec<Fault> {
+    faults.sort_by_key(|fault| fault.place);
+    faults.dedup_by_key(|fault| fault.place);
+    faults
 }

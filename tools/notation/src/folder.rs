@@ -1,65 +1,159 @@
 //! A finding as a folder: `finding.txt`, and the three slices that are judged.
 
 use crate::decoding::{self, Refusal};
-use crate::{encoding, print, Finding};
-use std::fs;
+use crate::fault::Fault;
+use crate::rules::LONGEST;
+use crate::{print, reading, text, Finding, Reading};
+use std::fs::{self, File};
+use std::io::{ErrorKind, Read};
 use std::path::Path;
 
 /// The files of the slices, in the order of the slices.
 pub const FILES: [&str; 3] = ["first.bin", "second.bin", "formula.bin"];
 
-/// The finding written in a folder, or what is wrong with it.
-pub fn finding(folder: &Path) -> Result<Finding, String> {
-    let path = folder.join("finding.txt");
-    let text = fs::read_to_string(&path).map_err(|error| format!("{}: {error}", path.display()))?;
-    crate::read(&text).map_err(|fault| format!("{}: {fault}", path.display()))
+/// What is to be said of a folder, a line each.
+pub type Lines = Vec<String>;
+
+/// A finding as it is judged: what `finding.txt` says where there is one, and else the files of bytes.
+#[derive(Debug)]
+pub struct Loaded {
+    pub slices: [Vec<u8>; 3],
+    /// Where the finding is written in words.
+    pub text: Option<Finding>,
+    /// What is to be said beside the answer: rules that are broken, warnings, files that are missing.
+    pub notes: Lines,
 }
 
-/// The bytes of both models and the formula.
-pub fn slices(finding: &Finding) -> [Vec<u8>; 3] {
-    [encoding::process(&finding.first), encoding::process(&finding.second), encoding::formula(&finding.formula)]
-}
-
-/// Writes the three slices of the finding.
-pub fn write(folder: &Path) -> Result<(), String> {
-    for (file, bytes) in FILES.iter().zip(slices(&finding(folder)?)) {
-        let path = folder.join(file);
-        fs::write(&path, bytes).map_err(|error| format!("{}: {error}", path.display()))?;
+/// Loads what is to be judged, or says why nothing is. `mend` is the command that writes the files of bytes anew.
+pub fn load(folder: &Path, mend: &str) -> Result<Loaded, Lines> {
+    is_folder(folder)?;
+    match written(folder)? {
+        Some(reading) => load_text(folder, mend, reading),
+        None => load_bytes(folder),
     }
-    Ok(())
+}
+
+/// The finding written in a folder, and what is doubtful in it.
+pub fn finding(folder: &Path) -> Result<(Finding, Lines), Lines> {
+    is_folder(folder)?;
+    let missing = || vec![format!("{}: there is none", folder.join("finding.txt").display())];
+    let reading = written(folder)?.ok_or_else(missing)?;
+    let warnings = lines(folder, "warning: ", &reading.warnings);
+    match reading.finding {
+        Some(finding) if reading.faults.is_empty() => Ok((finding, warnings)),
+        _ => Err(lines(folder, "", &reading.faults)),
+    }
 }
 
 /// Where the files differ from the finding's slices; none where they agree.
-pub fn differences(folder: &Path) -> Result<Vec<String>, String> {
-    let slices = slices(&finding(folder)?);
-    let compared = FILES.iter().zip(&slices).map(|(file, wanted)| {
-        let path = folder.join(file);
-        match fs::read(&path) {
-            Ok(found) => difference(wanted, &found).map(|what| format!("{}: {what}", path.display())),
-            Err(error) => Some(format!("{}: {error}", path.display())),
-        }
+pub fn differences(folder: &Path, finding: &Finding) -> Result<Lines, Lines> {
+    let slices = finding.slices.iter().map(|slice| &slice.bytes);
+    let compared = FILES.iter().zip(slices).map(|(file, wanted)| {
+        let found = slice(folder, file, wanted.len())?;
+        let what = found.map_or(Some("it is missing".to_string()), |found| difference(wanted, &found));
+        Ok(what.map(|what| format!("{}: {what}", folder.join(file).display())))
     });
-    Ok(compared.flatten().collect())
+    let compared: Result<Vec<Option<String>>, String> = compared.collect();
+    compared.map(|compared| compared.into_iter().flatten().collect()).map_err(|line| vec![line])
+}
+
+/// The notation of the three files.
+pub fn printed(folder: &Path) -> Result<String, Lines> {
+    is_folder(folder)?;
+    let refused = |file: &str, refusal: Refusal| vec![format!("{}: {refusal}", folder.join(file).display())];
+    let bytes = |file: &str| match slice(folder, file, LONGEST) {
+        Ok(Some(bytes)) => Ok(bytes),
+        Ok(None) => Err(vec![format!("{}: it is missing", folder.join(file).display())]),
+        Err(line) => Err(vec![line]),
+    };
+    let model = |file: &str| decoding::process(&bytes(file)?).map_err(|refusal| refused(file, refusal));
+    let formula = |file: &str| decoding::formula(&bytes(file)?).map_err(|refusal| refused(file, refusal));
+    Ok(print::finding(&model(FILES[0])?, &model(FILES[1])?, &formula(FILES[2])?))
+}
+
+fn is_folder(folder: &Path) -> Result<(), Lines> {
+    match fs::metadata(folder) {
+        Ok(data) if data.is_dir() => Ok(()),
+        Ok(_) => Err(vec![format!("{} is no folder", folder.display())]),
+        Err(error) if error.kind() == ErrorKind::NotFound => {
+            Err(vec![format!("there is no folder {}", folder.display())])
+        }
+        Err(error) => Err(vec![format!("{}: {error}", folder.display())]),
+    }
+}
+
+/// What `finding.txt` is read as, where there is one.
+fn written(folder: &Path) -> Result<Option<Reading>, Lines> {
+    let path = folder.join("finding.txt");
+    if fs::symlink_metadata(&path).is_err_and(|error| error.kind() == ErrorKind::NotFound) {
+        return Ok(None);
+    }
+    let told = |what: String| vec![format!("{}: {what}", path.display())];
+    let bytes = fs::read(&path).map_err(|error| told(error.to_string()))?;
+    text::text(&bytes).map(|text| Some(reading(text))).map_err(told)
+}
+
+fn lines(folder: &Path, what: &str, faults: &[Fault]) -> Lines {
+    let path = folder.join("finding.txt");
+    faults.iter().map(|fault| format!("{}: {what}{fault}", path.display())).collect()
+}
+
+fn load_text(folder: &Path, mend: &str, reading: Reading) -> Result<Loaded, Lines> {
+    let mut notes = lines(folder, "", &reading.faults);
+    let Some(finding) = reading.finding else { return Err(notes) };
+    for (file, wanted) in FILES.iter().zip(&finding.slices) {
+        let found = slice(folder, file, wanted.bytes.len()).map_err(|line| vec![line])?;
+        let Some(what) = found.and_then(|found| difference(&wanted.bytes, &found)) else { continue };
+        let command = format!("{mend} {}", quoted(folder));
+        notes.push(format!("{}: {what}; `{command}` writes it anew", folder.join(file).display()));
+        return Err(notes);
+    }
+    notes.extend(lines(folder, "warning: ", &reading.warnings));
+    let slices = finding.slices.clone().map(|slice| slice.bytes);
+    Ok(Loaded { slices, text: Some(finding), notes })
+}
+
+fn load_bytes(folder: &Path) -> Result<Loaded, Lines> {
+    let read = |file: &str| slice(folder, file, LONGEST).map_err(|line| vec![line]);
+    let found = [read(FILES[0])?, read(FILES[1])?, read(FILES[2])?];
+    if found.iter().all(Option::is_none) {
+        let folder = folder.display();
+        return Err(vec![format!("there is no finding in {folder}: neither finding.txt nor {}", FILES.join(", "))]);
+    }
+    let missing = FILES.iter().zip(&found).filter(|(_, bytes)| bytes.is_none());
+    let notes = missing.map(|(file, _)| format!("{} is missing, and counts as empty", folder.join(file).display()));
+    let notes = notes.collect();
+    Ok(Loaded { slices: found.map(Option::unwrap_or_default), text: None, notes })
+}
+
+/// The bytes of a file, at most one more than asked for; none if there is no such file.
+fn slice(folder: &Path, file: &str, most: usize) -> Result<Option<Vec<u8>>, String> {
+    let path = folder.join(file);
+    if fs::symlink_metadata(&path).is_err_and(|error| error.kind() == ErrorKind::NotFound) {
+        return Ok(None);
+    }
+    let mut bytes = Vec::new();
+    let opened = File::open(&path).and_then(|file| file.take(most.max(LONGEST) as u64 + 1).read_to_end(&mut bytes));
+    opened.map(|_| Some(bytes)).map_err(|error| format!("{}: {error}", path.display()))
 }
 
 fn difference(wanted: &[u8], found: &[u8]) -> Option<String> {
     let byte = |bytes: &[u8], at: usize| bytes.get(at).map_or("none".to_string(), |byte| format!("{byte:02x}"));
     let length = wanted.len().max(found.len());
-    let places: Vec<usize> = (0..length).filter(|at| wanted.get(*at) != found.get(*at)).collect();
-    let first = *places.first()?;
+    let first = (0..length).find(|at| wanted.get(*at) != found.get(*at))?;
     let (is, should) = (byte(found, first), byte(wanted, first));
-    Some(format!("{} of {length} bytes differ, first at {first}: it is {is}, finding.txt gives {should}", places.len()))
+    Some(format!(
+        "it is not what finding.txt says, first at byte {first}, where it has {is} and finding.txt gives {should}"
+    ))
 }
 
-/// The notation of the three files.
-pub fn printed(folder: &Path) -> Result<String, String> {
-    let refused = |file: &str, refusal: Refusal| format!("{}: {refusal}", folder.join(file).display());
-    let model = |file: &str| decoding::process(&slice(folder, file)?).map_err(|refusal| refused(file, refusal));
-    let formula = |file: &str| decoding::formula(&slice(folder, file)?).map_err(|refusal| refused(file, refusal));
-    Ok(print::finding(&model(FILES[0])?, &model(FILES[1])?, &formula(FILES[2])?))
-}
-
-fn slice(folder: &Path, file: &str) -> Result<Vec<u8>, String> {
-    let path = folder.join(file);
-    fs::read(&path).map_err(|error| format!("{}: {error}", path.display()))
+/// A path as a word of a command.
+fn quoted(path: &Path) -> String {
+    let text = path.display().to_string();
+    let plain = |c: char| c.is_ascii_alphanumeric() || "/._-+,=@%".contains(c);
+    match text.chars().all(plain) && !text.starts_with('-') {
+        true => text,
+        false if text.starts_with('-') => format!("-- '{}'", text.replace('\'', "'\\''")),
+        false => format!("'{}'", text.replace('\'', "'\\''")),
+    }
 }

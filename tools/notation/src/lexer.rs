@@ -1,6 +1,7 @@
-//! A text as a list of tokens with their places.
+//! A text as a list of tokens with their places. What is no token of the notation is one all the same, `Foreign`, so that
+//! the parser can say what to write instead.
 
-use crate::fault::{Fault, Place};
+use crate::fault::Place;
 use std::fmt;
 
 #[derive(Clone, Debug, PartialEq, Eq)]
@@ -8,6 +9,7 @@ pub enum Token {
     Word(String),
     Number(u32),
     Symbol(&'static str),
+    Foreign(String),
     End,
 }
 
@@ -25,10 +27,13 @@ pub const RESERVED: [&str; 25] = [
     "and", "or", "tau", "true", "names", "first", "second", "formula", "answer",
 ];
 
+/// What other notations have in more than one character; these are looked for first.
+const FOREIGN: [&str; 11] = ["(*", "/*", "//", "&&", "||", "/\\", "\\/", "==", "=>", "->", "<>"];
+
 impl fmt::Display for Token {
     fn fmt(&self, f: &mut fmt::Formatter<'_>) -> fmt::Result {
         match self {
-            Token::Word(word) => write!(f, "`{word}`"),
+            Token::Word(text) | Token::Foreign(text) => write!(f, "`{text}`"),
             Token::Number(number) => write!(f, "`{number}`"),
             Token::Symbol(symbol) => write!(f, "`{symbol}`"),
             Token::End => write!(f, "the end of the text"),
@@ -37,51 +42,49 @@ impl fmt::Display for Token {
 }
 
 /// The tokens of a text, `Token::End` last.
-pub fn lexemes(text: &str) -> Result<Vec<Lexeme>, Fault> {
+pub fn lexemes(text: &str) -> Vec<Lexeme> {
     let mut lexemes = Vec::new();
     let mut end = Place { line: 1, column: 1 };
     for (index, line) in text.lines().enumerate() {
         let code = line.split('#').next().unwrap_or("");
-        of_line(code, index + 1, &mut lexemes)?;
+        of_line(code, index + 1, &mut lexemes);
         end = Place { line: index + 1, column: line.chars().count() + 1 };
     }
     lexemes.push(Lexeme { token: Token::End, place: end });
-    Ok(lexemes)
+    lexemes
 }
 
-fn of_line(code: &str, line: usize, lexemes: &mut Vec<Lexeme>) -> Result<(), Fault> {
+fn of_line(code: &str, line: usize, lexemes: &mut Vec<Lexeme>) {
     let (mut rest, mut column) = (code, 1);
     loop {
         let text = rest.trim_start();
-        if text.is_empty() {
-            return Ok(());
-        }
         column += rest[..rest.len() - text.len()].chars().count();
-        let place = Place { line, column };
-        let (token, length) = first_token(text).map_err(|message| Fault::new(place, message))?;
-        lexemes.push(Lexeme { token, place });
+        if text.is_empty() {
+            return;
+        }
+        let (token, length) = first_token(text);
+        lexemes.push(Lexeme { token, place: Place { line, column } });
+        column += text[..length].chars().count();
         rest = &text[length..];
-        column += length;
     }
 }
 
-/// The token at the start of a text that does not start with a blank, and its length; tokens are ASCII.
-fn first_token(text: &str) -> Result<(Token, usize), String> {
+/// The token at the start of a text that does not start with a blank, and its length in bytes.
+fn first_token(text: &str) -> (Token, usize) {
+    if let Some(foreign) = FOREIGN.iter().find(|foreign| text.starts_with(**foreign)) {
+        return (Token::Foreign(foreign.to_string()), foreign.len());
+    }
     if let Some(symbol) = SYMBOLS.iter().find(|symbol| text.starts_with(**symbol)) {
-        return Ok((Token::Symbol(symbol), symbol.len()));
+        return (Token::Symbol(symbol), symbol.len());
     }
     let length = text.find(|c: char| !c.is_ascii_alphanumeric() && c != '_').unwrap_or(text.len());
     let run = &text[..length];
     match run.chars().next() {
-        None => Err(format!("`{}` starts no token", text.chars().next().unwrap_or(' '))),
-        Some(c) if c.is_ascii_digit() => Ok((number(run)?, length)),
-        Some(_) => Ok((Token::Word(run.to_string()), length)),
+        None => {
+            let foreign: String = text.chars().take(1).collect();
+            (Token::Foreign(foreign.clone()), foreign.len())
+        }
+        Some(c) if c.is_ascii_digit() => (run.parse().map_or(Token::Foreign(run.to_string()), Token::Number), length),
+        Some(_) => (Token::Word(run.to_string()), length),
     }
-}
-
-fn number(run: &str) -> Result<Token, String> {
-    if !run.chars().all(|c| c.is_ascii_digit()) {
-        return Err(format!("`{run}` is neither a number nor a word: a word starts with a letter"));
-    }
-    run.parse().map(Token::Number).map_err(|_| format!("the number {run} is too large"))
 }

@@ -1,13 +1,17 @@
 //! Findings in the readable notation of `docs/NOTATION.md`, and their bytes.
 
 pub mod decoding;
-pub mod encoding;
 pub mod fault;
 pub mod folder;
 pub mod lexer;
 mod parser;
 pub mod print;
+pub mod rules;
 mod scope;
+pub mod slice;
 pub mod syntax;
+pub mod text;
+pub mod tree;
+pub mod writing;
 
-pub use parser::findings::{read, Finding};
+pub use parser::findings::{read, reading, Finding, Reading};

@@ -1,24 +1,49 @@
 //! What words stand for: public names, what is bound around a place, and abbreviations.
 
+use crate::fault::Place;
 use crate::lexer::RESERVED;
-use crate::syntax::Term;
+use std::collections::BTreeMap;
 
 #[derive(Default)]
 pub struct Scope {
-    names: Vec<(String, u16)>,
-    bound: Vec<String>,
+    names: Vec<Name>,
+    bound: Vec<Bound>,
     abbreviations: Vec<Abbreviation>,
     /// How many of the abbreviations can be used: in the text of one, only those before it.
     visible: usize,
+    /// By the place of each binder whose scope has ended: its word, and whether that was used in any expansion.
+    ended: BTreeMap<Place, (String, bool)>,
+}
+
+#[derive(Clone, Debug)]
+pub struct Name {
+    pub word: String,
+    pub number: usize,
+    pub place: Place,
+    used: bool,
+}
+
+struct Bound {
+    word: String,
+    place: Place,
+    used: bool,
 }
 
 /// The tokens from `start` up to `end`.
 #[derive(Clone)]
 pub struct Abbreviation {
     pub word: String,
+    pub place: Place,
     pub start: usize,
     pub end: usize,
-    pub used: bool,
+    used: bool,
+}
+
+/// What a word stands for.
+#[derive(Clone, Copy, Debug, PartialEq, Eq)]
+pub enum Meaning {
+    Name(usize),
+    Variable(usize),
 }
 
 pub fn is_abbreviation(word: &str) -> bool {
@@ -26,34 +51,62 @@ pub fn is_abbreviation(word: &str) -> bool {
 }
 
 impl Scope {
-    pub fn name(&mut self, word: &str, number: u16) -> Result<(), String> {
+    pub fn name(&mut self, word: &str, number: usize, place: Place) -> Result<(), String> {
         self.free(word)?;
-        self.names.push((word.to_string(), number));
+        self.names.push(Name { word: word.to_string(), number, place, used: false });
         Ok(())
     }
 
-    pub fn bind(&mut self, word: &str) -> Result<(), String> {
-        self.free(word)?;
-        self.bound.push(word.to_string());
-        Ok(())
+    /// The word of the public name with this number, if it has one.
+    pub fn word_of(&self, number: usize) -> Option<&str> {
+        self.names.iter().find(|name| name.number == number).map(|name| name.word.as_str())
+    }
+
+    pub fn names(&self) -> &[Name] {
+        &self.names
+    }
+
+    /// A lone `_` binds what needs no word: it may stand any number of times, and for nothing that can be used.
+    pub fn bind(&mut self, word: &str, place: Place) -> Result<(), String> {
+        let free = if word == "_" { Ok(()) } else { self.free(word) };
+        self.bound.push(Bound { word: word.to_string(), place, used: false });
+        free
     }
 
     /// Ends the scope of the word bound last.
     pub fn unbind(&mut self) {
-        self.bound.pop();
+        if let Some(bound) = self.bound.pop() {
+            let entry = self.ended.entry(bound.place).or_insert((bound.word, false));
+            entry.1 |= bound.used;
+        }
     }
 
-    /// The public name, variable or alias that a word stands for.
-    pub fn term(&self, word: &str) -> Option<Term> {
-        let name = self.names.iter().find(|(known, _)| known == word).map(|(_, number)| Term::Name(*number));
-        name.or_else(|| self.bound.iter().position(|known| known == word).map(Term::Variable))
+    /// Ends all scopes that a fault has left open.
+    pub fn unbind_all(&mut self) {
+        self.bound.clear();
+        self.visible = self.abbreviations.len();
     }
 
-    pub fn abbreviate(&mut self, word: &str, start: usize, end: usize) -> Result<(), String> {
+    /// What a word stands for; it then counts as used.
+    pub fn meaning(&mut self, word: &str) -> Option<Meaning> {
+        if let Some(name) = self.names.iter_mut().find(|name| name.word == word) {
+            name.used = true;
+            return Some(Meaning::Name(name.number));
+        }
+        let index = self.bound.iter().position(|bound| bound.word == word && word != "_")?;
+        self.bound[index].used = true;
+        Some(Meaning::Variable(index))
+    }
+
+    pub fn knows(&self, word: &str) -> bool {
+        self.names.iter().any(|name| name.word == word) || self.bound.iter().any(|bound| bound.word == word)
+    }
+
+    pub fn abbreviate(&mut self, word: &str, place: Place, start: usize, end: usize) -> Result<(), String> {
         if self.abbreviations.iter().any(|known| known.word == word) {
             return Err(format!("`{word}` is an abbreviation already"));
         }
-        self.abbreviations.push(Abbreviation { word: word.to_string(), start, end, used: false });
+        self.abbreviations.push(Abbreviation { word: word.to_string(), place, start, end, used: false });
         self.visible = self.abbreviations.len();
         Ok(())
     }
@@ -70,8 +123,15 @@ impl Scope {
         std::mem::replace(&mut self.visible, count)
     }
 
-    pub fn unused(&self) -> Option<&Abbreviation> {
-        self.abbreviations.iter().find(|known| !known.used)
+    /// What is not used, and where it stands. A word that starts with `_` need not be.
+    pub fn unused(&self) -> Vec<(Place, String)> {
+        let names = self.names.iter().filter(|name| !name.used).map(|name| (name.place, "public name", &name.word));
+        let shorts = self.abbreviations.iter().filter(|known| !known.used);
+        let shorts = shorts.map(|known| (known.place, "abbreviation", &known.word));
+        let bound = self.ended.iter().filter(|(_, (_, used))| !used);
+        let bound = bound.map(|(place, (word, _))| (*place, "word", word));
+        let unused = names.chain(shorts).chain(bound).filter(|(_, _, word)| !word.starts_with('_'));
+        unused.map(|(place, what, word)| (place, format!("the {what} `{word}` is not used"))).collect()
     }
 
     fn free(&self, word: &str) -> Result<(), String> {
@@ -79,7 +139,7 @@ impl Scope {
             Err(format!("`{word}` is a reserved word"))
         } else if is_abbreviation(word) {
             Err(format!("`{word}` starts with a capital letter, as abbreviations do"))
-        } else if self.term(word).is_some() {
+        } else if self.knows(word) {
             Err(format!("`{word}` stands for something here already"))
         } else {
             Ok(())

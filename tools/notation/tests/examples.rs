@@ -2,20 +2,26 @@
 
 mod support;
 
-use notation::folder;
+use notation::{folder, Finding};
 use std::fs;
 use std::path::Path;
-use support::{examples, folders};
+use support::{bytes, examples, folders};
+
+/// The finding in a folder, in which nothing is doubtful.
+fn finding(folder: &Path) -> Finding {
+    let (finding, warnings) = folder::finding(folder).unwrap_or_else(|lines| panic!("{lines:?}"));
+    assert!(warnings.is_empty(), "{warnings:?}");
+    finding
+}
 
 fn answer(folder: &Path) -> [u32; 4] {
-    let finding = folder::finding(folder).unwrap_or_else(|message| panic!("{message}"));
-    finding.answer.unwrap_or_else(|| panic!("{}: no answer", folder.display()))
+    finding(folder).answer.unwrap_or_else(|| panic!("{}: no answer", folder.display())).0
 }
 
 #[test]
 fn the_notation_gives_the_bytes() {
     for folder in folders() {
-        assert_eq!(folder::differences(&folder), Ok(vec![]));
+        assert_eq!(folder::differences(&folder, &finding(&folder)), Ok(vec![]));
     }
 }
 
@@ -23,18 +29,16 @@ fn the_notation_gives_the_bytes() {
 #[test]
 fn the_bytes_can_be_printed() {
     for folder in folders() {
-        let printed = folder::printed(&folder).unwrap_or_else(|message| panic!("{message}"));
-        let read = notation::read(&printed).unwrap_or_else(|fault| panic!("{fault}, in\n{printed}"));
-        let written = folder::finding(&folder).unwrap_or_else(|message| panic!("{message}"));
-        assert_eq!(folder::slices(&read), folder::slices(&written));
+        let printed = folder::printed(&folder).unwrap_or_else(|lines| panic!("{lines:?}"));
+        assert_eq!(bytes(&support::finding(&printed)), bytes(&finding(&folder)));
     }
 }
 
 #[test]
 fn each_says_first_what_it_shows() {
     for folder in folders() {
-        let finding = folder::finding(&folder).unwrap_or_else(|message| panic!("{message}"));
-        assert!(finding.summary.ends_with('.'), "{}: {:?}", folder.display(), finding.summary);
+        let summary = finding(&folder).summary;
+        assert!(summary.ends_with('.'), "{}: {summary:?}", folder.display());
     }
 }
 

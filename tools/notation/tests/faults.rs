@@ -10,17 +10,22 @@ fn what_is_said_and_where() {
         ("", "line 1, column 1: expected `first`, found the end of the text"),
         ("first", "line 1, column 6: expected a process, found the end of the text"),
         ("first\n  out(0 1)", "line 2, column 9: expected `,`, found `1`"),
-        ("first\n  out(0, 256)", "line 2, column 10: a public name is 0 to 255, found 256"),
+        ("first\n  out(0, 256)", "line 2, column 10: a public name is 0 to 255, found 256 (rule 5)"),
         ("first in(0, 1)", "line 1, column 13: expected a word to bind, found `1`"),
         ("first new x nil", "line 1, column 13: expected `,` or `.`, found `nil`"),
-        ("first if 0 = 0 then nil second", "line 1, column 25: expected `else`, found `second`"),
+        ("first if 0 = 0 then nil second", "line 1, column 25: expected `else`, found `second`: an `if` has both branches, the second may be `else nil`"),
         ("first out(0, nil)", "line 1, column 14: expected a term, found `nil`"),
-        ("first 0", "line 1, column 7: expected a process, found `0`"),
+        ("first 0", "line 1, column 7: the process `0` is written `nil`"),
+        ("first 1", "line 1, column 7: expected a process, found `1`"),
         ("first then", "line 1, column 7: expected a process, found `then`"),
         ("first nil nil", "line 1, column 11: expected `second`, found `nil`"),
-        ("first (nil second", "line 1, column 12: expected `)`, found `second`"),
-        ("first nil second nil formula <0> true", "line 1, column 31: expected `out`, `in` or `tau`, found `0`"),
-        ("first nil second nil formula <tau] true", "line 1, column 34: expected `>`, found `]`"),
+        ("first (nil second", "line 1, column 12: expected `)`, found `second`: the `(` at line 1, column 7 is not closed"),
+        (
+            "first nil second nil formula <0> true",
+            "line 1, column 31: expected `out`, `in` or `tau`, found `0`: \
+             a step formula is `<out c x> F`, `<in c M> F` or `<tau> F`",
+        ),
+        ("first nil second nil formula <tau] true", "line 1, column 34: expected `>`, found `]`: the `<` at line 1, column 30 is not closed"),
         ("first nil second nil formula and", "line 1, column 30: expected a formula, found `and`"),
         ("first nil second nil formula 0 < 1", "line 1, column 32: expected `=` or `!=`, found `<`"),
         ("first nil second nil formula true 0", "line 1, column 35: expected the end of the text, found `0`"),
@@ -28,15 +33,15 @@ fn what_is_said_and_where() {
             "first nil second nil formula true answer 0 0",
             "line 1, column 45: expected a number, found the end of the text",
         ),
-        ("names c = x", "line 1, column 11: expected a number, found `x`"),
+        ("names c = .", "line 1, column 11: expected a number, found `.`"),
         ("names 1 = c", "line 1, column 7: expected a word for a public name, found `1`"),
         (
             "first\n\tout(0, 6A80)",
-            "line 2, column 9: `6A80` is neither a number nor a word: a word starts with a letter",
+            "line 2, column 9: expected a term, found `6A80`: a word starts with a letter",
         ),
-        ("first out(0, 99999999999)", "line 1, column 14: the number 99999999999 is too large"),
-        ("# é\nfirst é", "line 2, column 7: `é` starts no token"),
-        ("first ; nil", "line 1, column 7: `;` starts no token"),
+        ("first out(0, 99999999999)", "line 1, column 14: expected a term, found `99999999999`: the number 99999999999 is too large"),
+        ("# é\nfirst é", "line 2, column 7: expected a process, found `é`: this is no part of the notation"),
+        ("first ; nil", "line 1, column 7: expected a process, found `;`: `;` is written `.`"),
     ] {
         assert_eq!(fault(text).to_string(), said, "{text}");
     }
@@ -47,7 +52,7 @@ fn faults_in_abbreviations_name_both_places() {
     for (text, said) in [
         (
             "Card = out(c, x)\nfirst new c.\n  Card second nil formula true",
-            "line 1, column 15: unknown word `x`: it is no public name, and nothing around binds it \
+            "line 1, column 15: unknown word `x`: it is no public name, and nothing around binds it (rule 6) \
              (in `Card`, used at line 3, column 3)",
         ),
         (
@@ -74,6 +79,9 @@ fn deep_and_large_texts_are_refused() {
     let doubling: String = (1..60).map(|i| format!("A{i} = A{} | A{}\n", i - 1, i - 1)).collect();
     let said = fault(&format!("A0 = nil\n{doubling}first A59 second nil formula true")).message;
     assert!(said.contains("nodes"), "{said}");
+    let faults =
+        notation::read(&format!("A0 = nil nil\n{doubling}first A59 second A59 formula true")).expect_err("faults");
+    assert!(faults.iter().any(|fault| fault.message.contains("the end of the abbreviation")), "{faults:?}");
 }
 
 #[test]
@@ -81,7 +89,7 @@ fn no_text_panics() {
     let pieces = [
         "first", "second", "formula", "answer", "names", "nil", "new", "out", "in", "if", "then", "else", "let",
         "repl", "(", ")", ",", ".", "=", "!=", "<", ">", "[", "]", "|", "x", "A", "0", "7", "pair", "not", "and",
-        "tau", "#", "\n",
+        "tau", "#", "\n", "!", ";", ":", "(*", "*)", "/*", "//", "&&", "||", "<>", "==", "false", "_", "é", "6A",
     ];
     let mut random = Random(3);
     for _ in 0..20_000 {
@@ -89,5 +97,44 @@ fn no_text_panics() {
         let words: Vec<&str> = (0..length).map(|_| pieces[random.below(pieces.len())]).collect();
         let _ = notation::read(&words.join(" "));
         let _ = notation::read(&format!("first {}", words.join(" ")));
+    }
+}
+
+/// After a fault that stops a section, the other sections are read.
+#[test]
+fn sections_are_read_each_by_itself() {
+    let text = "names c\nfirst out(c c)\nsecond (nil | ) formula <out 1 x> x\nanswer 1 2 3";
+    let said: Vec<String> = notation::reading(text).faults.iter().map(|fault| fault.to_string()).collect();
+    assert_eq!(
+        said,
+        [
+            "line 2, column 1: expected `=`, found `first`",
+            "line 2, column 11: unknown word `c`: it is no public name, and nothing around binds it (rule 6)",
+            "line 2, column 13: expected `,`, found `c`",
+            "line 3, column 15: expected a process, found `)`",
+            "line 4, column 1: expected `=` or `!=`, found `answer`",
+            "line 4, column 13: expected a number, found the end of the text",
+        ]
+    );
+    let text = "second nil first nil formula true";
+    let said: Vec<String> = notation::reading(text).faults.iter().map(|fault| fault.to_string()).collect();
+    let expected = ["expected `first`, found `second`", "expected `formula`, found `first`"];
+    assert!(said.len() == 2 && said.iter().zip(expected).all(|(said, part)| said.ends_with(part)), "{said:?}");
+}
+
+/// A byte order mark is passed over; what is no text is told with its place.
+#[test]
+fn bytes_that_are_no_text() {
+    assert_eq!(notation::text::text(b"\xef\xbb\xbffirst"), Ok("first"));
+    for (bytes, said) in [
+        (&b"\xff\xfef\0"[..], "this is text in UTF-16; save it as UTF-8"),
+        (b"\xfe\xff\0f", "this is text in UTF-16; save it as UTF-8"),
+        (
+            "first\n  é\u{20ac}".as_bytes().strip_suffix(b"\xac").expect("its last byte"),
+            "line 2, column 4: the byte e2 is no text in UTF-8; is this a file of bytes, or saved otherwise?",
+        ),
+        (b"\x80", "line 1, column 1: the byte 80 is no text in UTF-8; is this a file of bytes, or saved otherwise?"),
+    ] {
+        assert_eq!(notation::text::text(bytes), Err(said.to_string()));
     }
 }

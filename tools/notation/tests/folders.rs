@@ -1,10 +1,11 @@
 //! The program `encode` on folders.
 
+use notation::folder::load;
 use std::fs;
-use std::path::PathBuf;
+use std::path::{Path, PathBuf};
 use std::process::{Command, Output};
 
-const FINDING: &str = "# It shows nothing.\nnames c = 0\nfirst nil\nsecond out(c, c)\nformula not <out c x> true\n";
+const FINDING: &str = "# It shows nothing.\nnames c = 0\nfirst nil\nsecond out(c, c)\nformula not <out c _> true\n";
 
 /// A folder of this name, which holds nothing but `finding.txt`.
 fn folder(name: &str, finding: &str) -> PathBuf {
@@ -36,7 +37,7 @@ fn writes_compares_and_prints() {
     let same = encode(&["--check", name]);
     assert!(same.status.success() && said(&same).is_empty(), "{}", said(&same));
     let printed = said(&encode(&["--print", name]));
-    assert_eq!(printed, "first\n  nil\n\nsecond\n  out(0, 0)\n\nformula\n  not <out 0 a0> true\n");
+    assert_eq!(printed, "first\n  nil\n\nsecond\n  out(0, 0)\n\nformula\n  not <out 0 _> true\n");
 }
 
 #[test]
@@ -50,8 +51,9 @@ fn says_which_bytes_differ() {
     let checked = encode(&["--check", name]);
     assert_eq!(checked.status.code(), Some(1));
     let said = said(&checked);
-    assert!(said.contains("first.bin: 2 of 2 bytes differ, first at 0: it is 07, finding.txt gives 00"), "{said}");
-    assert!(said.contains("formula.bin: ") && !said.contains("second.bin"), "{said}");
+    let differs = "first at byte 0, where it has 07 and finding.txt gives 00";
+    assert!(said.contains(&format!("first.bin: it is not what finding.txt says, {differs}")), "{said}");
+    assert!(said.contains("formula.bin: it is missing") && !said.contains("second.bin"), "{said}");
     assert_eq!(fs::read(path.join("first.bin")).ok(), Some(vec![7, 0]));
 }
 
@@ -72,12 +74,119 @@ fn refused_slices_are_not_printed() {
     fs::write(path.join("second.bin"), [8]).expect("a changed slice");
     let output = encode(&["--print", name]);
     assert_eq!(output.status.code(), Some(1));
-    assert!(said(&output).contains("second.bin: refused 4 at byte 0"), "{}", said(&output));
+    assert!(
+        said(&output).contains("second.bin: refused by rule 4, at byte 0: no such kind is listed"),
+        "{}",
+        said(&output)
+    );
 }
 
 #[test]
 fn tells_how_it_is_used() {
-    for arguments in [vec![], vec!["--check"], vec!["--other", "folder"]] {
-        assert_eq!(encode(&arguments).status.code(), Some(2));
+    for arguments in [vec![], vec!["--check"], vec!["--other", "folder"], vec!["--print", "--"]] {
+        let output = encode(&arguments);
+        assert_eq!((output.status.code(), output.stdout.len()), (Some(2), 0));
     }
+    let help = encode(&["--help"]);
+    assert!(help.status.success() && help.stderr.is_empty() && said(&help).contains("--check"), "{}", said(&help));
+    let version = encode(&["--version"]);
+    assert_eq!((version.status.code(), said(&version)), (Some(0), format!("encode {}\n", env!("CARGO_PKG_VERSION"))));
+}
+
+/// With a fault, or where one file cannot be written, none is, and nothing else is left behind.
+#[test]
+fn writes_all_three_files_or_none() {
+    let path = folder("none", FINDING);
+    let name = path.to_str().expect("a path in UTF-8");
+    encode(&[name]);
+    let before = files(&path);
+    let deep = format!("first {}nil second nil formula true", "repl ".repeat(64));
+    for text in ["first nil second nil formula", "first out(0, x) second nil formula true", &deep] {
+        fs::write(path.join("finding.txt"), text).expect("another finding");
+        assert_eq!(encode(&[name]).status.code(), Some(1));
+        fs::write(path.join("finding.txt"), FINDING).expect("the finding again");
+        assert_eq!(files(&path), before);
+    }
+    fs::remove_file(path.join("formula.bin")).expect("a slice less");
+    fs::create_dir_all(path.join("formula.bin/full")).expect("a folder in its place");
+    fs::write(path.join("finding.txt"), "first repl nil second nil formula true").expect("another finding");
+    let output = encode(&[name]);
+    assert_eq!(output.status.code(), Some(1));
+    assert!(
+        said(&output).contains("formula.bin: ") && said(&output).contains("nothing is written"),
+        "{}",
+        said(&output)
+    );
+    assert_eq!(fs::read(path.join("first.bin")).ok(), Some(vec![0]));
+    assert_eq!(fs::read_dir(&path).expect("the folder").count(), 4);
+}
+
+/// The names of the files in a folder, with their bytes.
+fn files(path: &Path) -> Vec<(String, Vec<u8>)> {
+    let entries = fs::read_dir(path).expect("the folder").map(|entry| entry.expect("a file"));
+    let mut files: Vec<_> = entries
+        .map(|entry| (entry.file_name().to_string_lossy().into_owned(), fs::read(entry.path()).expect("its bytes")))
+        .collect();
+    files.sort();
+    files
+}
+
+#[test]
+fn folders_of_any_name() {
+    let path = folder("-x", FINDING);
+    let parent = path.parent().expect("the folder around");
+    let run = |arguments: &[&str]| {
+        let output = Command::new(env!("CARGO_BIN_EXE_encode")).args(arguments).current_dir(parent).output();
+        output.expect("encode runs")
+    };
+    let wrong = run(&["-x"]);
+    assert_eq!(wrong.status.code(), Some(2));
+    assert!(said(&wrong).contains("there is no option -x; a folder of that name is given as ./-x, or behind `--`"));
+    assert!(run(&["--", "-x"]).status.success());
+    assert!(run(&["--check", "./-x"]).status.success());
+    for (name, words) in [("nowhere", "there is no folder nowhere"), ("-x/finding.txt", "-x/finding.txt is no folder")]
+    {
+        let output = run(&["--", name]);
+        assert_eq!(output.status.code(), Some(1));
+        assert!(said(&output).contains(words), "{}", said(&output));
+    }
+}
+
+#[test]
+fn warns_and_writes() {
+    let path = folder("warns", "first new k. nil second nil formula true");
+    let output = encode(&[path.to_str().expect("a path in UTF-8")]);
+    assert!(output.status.success() && output.stdout.is_empty());
+    assert!(said(&output).contains("finding.txt: warning: line 1, column 11: the word `k` is not used"));
+    assert!(path.join("first.bin").exists());
+}
+
+/// What is judged: the text where there is one, and the bytes beside it only if they are the same.
+#[test]
+fn what_is_loaded() {
+    let path = folder("loaded", FINDING);
+    let loaded = || load(&path, "encode");
+    assert_eq!(loaded().map(|loaded| loaded.slices[0].clone()), Ok(vec![0]), "without files of bytes");
+    encode(&[path.to_str().expect("a path in UTF-8")]);
+    assert_eq!(loaded().map(|loaded| (loaded.text.is_some(), loaded.notes)), Ok((true, vec![])));
+    fs::write(path.join("second.bin"), [0]).expect("an old slice");
+    let old = loaded().map(|_| ()).expect_err("an old slice");
+    let mend = format!("`encode {}` writes it anew", path.display());
+    assert!(old[0].contains("second.bin: it is not what finding.txt says") && old[0].ends_with(&mend), "{old:?}");
+    fs::remove_file(path.join("finding.txt")).expect("bytes alone");
+    assert_eq!(loaded().map(|loaded| (loaded.text.is_some(), loaded.slices[1].clone())), Ok((false, vec![0])));
+    fs::remove_file(path.join("first.bin")).expect("two files of bytes");
+    let notes = loaded().expect("a missing file counts as empty").notes;
+    assert!(notes.len() == 1 && notes[0].ends_with("first.bin is missing, and counts as empty"), "{notes:?}");
+    fs::create_dir(path.join("first.bin")).expect("a folder in its place");
+    assert!(loaded().map(|_| ()).expect_err("it cannot be read")[0].contains("first.bin: "));
+}
+
+/// A text whose bytes break a rule is judged all the same; what is said comes along.
+#[test]
+fn what_breaks_a_rule_is_loaded() {
+    let path = folder("rule", &format!("first {}nil second nil formula true", "repl ".repeat(64)));
+    let loaded = load(&path, "encode").expect("its bytes");
+    assert_eq!(loaded.slices[0].len(), 65);
+    assert!(loaded.notes[0].contains("line 1, column 327: nested too deep: 65 process nodes"), "{:?}", loaded.notes);
 }

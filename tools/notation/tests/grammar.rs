@@ -2,6 +2,7 @@
 
 mod support;
 
+use notation::fault::{Cause, Fault};
 use notation::lexer::{lexemes, Token, RESERVED, SYMBOLS};
 use notation::print;
 use std::collections::BTreeSet;
@@ -15,7 +16,7 @@ fn grammar() -> Grammar {
 
 /// The tokens of a text, without its end.
 fn tokens(text: &str) -> Vec<Token> {
-    let mut tokens: Vec<Token> = lexemes(text).expect("tokens").into_iter().map(|lexeme| lexeme.token).collect();
+    let mut tokens: Vec<Token> = lexemes(text).into_iter().map(|lexeme| lexeme.token).collect();
     tokens.pop();
     tokens
 }
@@ -26,7 +27,7 @@ fn text(tokens: &[Token]) -> String {
 
 /// Every construct, in short findings.
 const SHORT: [&str; 5] = [
-    "names c = 0, d = 1 A = nil first A B = A second B | A C = true D = c = d formula C or D answer 1 2 3 4",
+    "names c = 0, d = 1, e = d A = nil first A B = A second B | A C = true D = c = d formula C or D answer 1 2 3 4",
     "first if 0 = 1 then nil else nil second let x = 1 in nil formula [tau] true and not 1 != 2",
     "first new x, y. out(x, y). nil second in(0, x). nil formula [out 0 x] x = 1",
     "first repl (nil) second out(fst(0), snd(1)) formula <in 0 1> (<tau> true)",
@@ -55,12 +56,15 @@ fn change(tokens: &mut Vec<Token>, random: &mut Random) {
 }
 
 /// Whether a text has a fault of syntax, or none; otherwise nothing is known. An abbreviation may be used as a formula
-/// and be none: that is no matter of the grammar.
+/// and be none, or be used nowhere and so be anything: that is no matter of the grammar.
 fn has_syntax_fault(text: &str) -> Option<bool> {
-    match notation::read(text) {
-        Ok(_) => Some(false),
-        Err(fault) => (fault.message.starts_with("expected") && !fault.message.contains("(in `")).then_some(true),
+    let reading = notation::reading(text);
+    if reading.warnings.iter().any(|warning| warning.message.starts_with("the abbreviation")) {
+        return None;
     }
+    let of_syntax = |fault: &Fault| fault.cause == Cause::Syntax && fault.within.is_none();
+    let known = reading.faults.iter().all(of_syntax);
+    known.then_some(!reading.faults.is_empty())
 }
 
 #[test]

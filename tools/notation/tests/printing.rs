@@ -4,7 +4,7 @@ mod support;
 
 use notation::print;
 use notation::syntax::{Formula, Process, Term};
-use support::{finding, Random};
+use support::{finding, trees, Random};
 
 fn there_and_back(first: &Process, second: &Process, formula: &Formula) {
     let line = format!(
@@ -14,10 +14,10 @@ fn there_and_back(first: &Process, second: &Process, formula: &Formula) {
         print::formula(formula)
     );
     for text in [line, print::finding(first, second, formula)] {
-        let read = finding(&text);
-        assert_eq!(&read.first, first, "{text}");
-        assert_eq!(&read.second, second, "{text}");
-        assert_eq!(&read.formula, formula, "{text}");
+        let read = notation::reading(&text);
+        assert_eq!((read.faults, read.warnings), (vec![], vec![]), "{text}");
+        let read = trees(&finding(&text));
+        assert_eq!((&read.0, &read.1, &read.2), (first, second, formula), "{text}");
     }
 }
 
@@ -89,7 +89,7 @@ fn random_trees() {
     }
 }
 
-/// The deepest trees within the rules: 64 process nodes, 48 formula nodes and 8 term nodes on a path.
+/// The deepest trees within the rules: 64 process nodes, 48 formula nodes with 16 steps, and 8 term nodes on a path.
 #[test]
 fn deep_trees() {
     let term = (1..8).fold(Term::Name(0), |term, _| Term::Fst(Box::new(term)));
@@ -104,10 +104,11 @@ fn deep_trees() {
         let process = (0..31).fold(output.clone(), |process, _| wrap(Box::new(process)));
         there_and_back(&process, &process, &equal);
     }
-    let formula = (0..23).fold(equal, |body, _| {
+    let formula = (0..16).fold(equal, |body, _| {
         let step = Formula::SilentStep(Box::new(body));
         Formula::And(Box::new(step), Box::new(Formula::Equal(Term::Name(0), Term::Name(0))))
     });
+    let formula = (0..15).fold(formula, |body, _| Formula::Not(Box::new(body)));
     there_and_back(&Process::Nil, &Process::Nil, &formula);
 }
 
@@ -124,8 +125,8 @@ fn lines_stay_short() {
 #[test]
 fn what_it_looks_like() {
     let text = "first\n  new v0. (out(v0, 7) | in(v0, v1). repl out(1, pair(v1, v0)))\n\n\
-                second\n  nil\n\n\
-                formula\n  [out 1 a0] (fst(a0) = 7 and snd(a0) != 7 or <in 1 a0> true)\n";
-    let read = finding(text);
-    assert_eq!(print::finding(&read.first, &read.second, &read.formula), text);
+                second\n  new _. new v1. in(v1, _)\n\n\
+                formula\n  <out 0 _> [out 1 a1] (fst(a1) = 7 and snd(a1) != 7 or <in 1 a1> true)\n";
+    let (first, second, formula) = trees(&finding(text));
+    assert_eq!(print::finding(&first, &second, &formula), text);
 }

@@ -2,7 +2,11 @@
 
 mod support;
 
-use support::{fault, finding, formula, process};
+use support::{bytes, fault, finding, formula, process};
+
+fn same(text: &str, other: &str) {
+    assert_eq!(bytes(&finding(text)), bytes(&finding(other)), "{text}");
+}
 
 #[test]
 fn variables_are_numbered_from_the_outside() {
@@ -22,7 +26,7 @@ fn two_sides_may_bind_one_word() {
 #[test]
 fn names_stand_for_numbers() {
     let text = "names c = 3, key = 255 first out(c, key) second nil formula <out c x> x = key";
-    assert_eq!(finding(text), finding("first out(3, 255) second nil formula <out 3 x> x = 255"));
+    same(text, "first out(3, 255) second nil formula <out 3 x> x = 255");
 }
 
 #[test]
@@ -33,14 +37,14 @@ fn abbreviations_mean_what_they_mean_where_they_stand() {
     let long = "first new k. new c. (out(c, k) | out(c, k))
                 second new b. new k. new c. (out(c, k) | out(c, k))
                 formula <out 0 x> <out 0 y> x = y";
-    assert_eq!(finding(short), finding(long));
+    same(short, long);
 }
 
 #[test]
 fn an_abbreviation_stands_as_if_in_parentheses() {
     let text = "Two = nil | nil first repl Two second Two | nil Or = 1 = 1 or 2 = 2 formula not Or";
     let long = "first repl (nil | nil) second (nil | nil) | nil formula not (1 = 1 or 2 = 2)";
-    assert_eq!(finding(text), finding(long));
+    same(text, long);
 }
 
 #[test]
@@ -95,7 +99,6 @@ fn abbreviations_that_cannot_be_used() {
         ("A = A first A second nil formula true", "unknown abbreviation `A`"),
         ("first A A = nil second nil formula true", "unknown abbreviation `A`"),
         ("A = nil A = nil first A second nil formula true", "`A` is an abbreviation already"),
-        ("A = nil first nil second nil formula true", "the abbreviation `A` is not used"),
     ] {
         let message = fault(text).message;
         assert!(message.contains(part), "{text}\n{message}");
@@ -106,6 +109,56 @@ fn abbreviations_that_cannot_be_used() {
 fn the_rest_of_a_finding() {
     let read = finding("# It shows.\nfirst nil second nil formula true answer 13 0 0 4");
     assert_eq!(read.summary, "It shows.");
-    assert_eq!(read.answer, Some([13, 0, 0, 4]));
+    assert_eq!(read.answer.map(|(numbers, place)| (numbers, place.line, place.column)), Some(([13, 0, 0, 4], 2, 35)));
     assert_eq!(finding("first nil second nil formula true").answer, None);
+}
+
+/// A lone `_` binds what is not used, any number of times; it stands for nothing.
+#[test]
+fn a_lone_underscore_binds_without_a_word() {
+    let text = "first new _, _. in(0, _). in(0, x). out(x, x) second nil formula <out 0 _> <out 0 y> y = 1";
+    same(text, "first new a, b. in(0, c). in(0, x). out(x, x) second nil formula <out 0 z> <out 0 y> y = 1");
+    let message = fault("first in(0, _). out(0, _) second nil formula true").message;
+    assert_eq!(message, "`_` binds what is not used, and stands for nothing");
+}
+
+/// Two words are one public name only where the second is said to be the first.
+#[test]
+fn two_words_for_one_name() {
+    same("names c = 7, d = c first out(c, d) second nil formula true", "first out(7, 7) second nil formula true");
+    for (text, said) in [
+        ("names c = 7, d = 7", "line 1, column 14: `d` and `c` are one public name, 7; if so meant: `d = c`"),
+        ("names c = d, d = 7", "line 1, column 11: `d` is no public name before this one; expected that, or a number"),
+        ("names c = c", "line 1, column 11: `c` is no public name before this one; expected that, or a number"),
+        ("names c = 1, c = 1", "line 1, column 14: `c` stands for something here already"),
+    ] {
+        assert_eq!(fault(&format!("{text} first nil second nil formula true")).to_string(), said);
+    }
+}
+
+#[test]
+fn what_is_doubtful() {
+    let text = "names c = 0, spare = 1, _spare = 2\nUnused = nil\nfirst new k. in(c, _x). in(c, y). out(c, 0)\n\
+                second nil\nformula <out c x> true";
+    let said: Vec<String> = notation::reading(text).warnings.iter().map(|warning| warning.to_string()).collect();
+    assert_eq!(
+        said,
+        [
+            "line 1, column 14: the public name `spare` is not used",
+            "line 2, column 1: the abbreviation `Unused` is not used",
+            "line 3, column 11: the word `k` is not used",
+            "line 3, column 31: the word `y` is not used",
+            "line 3, column 42: the public name 0 is `c`; should it be the same here?",
+            "line 5, column 16: the word `x` is not used",
+        ]
+    );
+}
+
+/// A word bound in an abbreviation is used if it is in one of the places where that stands.
+#[test]
+fn what_is_used_in_an_abbreviation() {
+    let text = "Take = in(0, x). Rest Rest = nil first Take second nil formula true";
+    assert!(fault(text).message.contains("unknown abbreviation `Rest`"));
+    let text = "Say = out(0, k) first new k. Say second new k. (Say | Say) formula true";
+    assert!(notation::reading(text).warnings.is_empty());
 }

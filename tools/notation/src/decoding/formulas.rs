@@ -2,11 +2,8 @@
 
 use super::terms::term;
 use super::{Bytes, Decoded};
+use crate::rules::{FORMULA_NODES, STEP_FORMULAS, TOO_DEEP};
 use crate::syntax::Formula;
-
-/// So many formula nodes are on one path at most, and so many step formulas.
-const DEEPEST: usize = 48;
-const MOST_STEPS: usize = 16;
 
 /// What is around a formula: formula nodes, step formulas among them, and output steps among those, which are the
 /// aliases in scope.
@@ -24,7 +21,8 @@ pub fn outermost(bytes: &mut Bytes) -> Decoded<Formula> {
 fn formula(bytes: &mut Bytes, around: Around) -> Decoded<Formula> {
     let kind = bytes.kind(6)?;
     let is_step = kind.value >= 3;
-    kind.unless(around.nodes == DEEPEST || is_step && around.steps == MOST_STEPS, 7)?;
+    kind.unless(around.nodes == FORMULA_NODES, 7, TOO_DEEP[3])?;
+    kind.unless(is_step && around.steps == STEP_FORMULAS, 7, TOO_DEEP[4])?;
     let aliases = around.outputs;
     let inside = Around {
         nodes: around.nodes + 1,

@@ -4,22 +4,21 @@ mod formulas;
 mod processes;
 mod terms;
 
+use crate::rules::LONGEST;
 use crate::syntax::{Formula, Process};
 use std::fmt;
 
-/// A slice has so many bytes at most.
-const LONGEST: usize = 4096;
-
-/// The number of the rule that a slice breaks, and the place that document 01 gives for it.
+/// The number of the rule that a slice breaks, the place that document 01 gives for it, and the rule in words.
 #[derive(Clone, Copy, Debug, PartialEq, Eq)]
 pub struct Refusal {
     pub rule: u32,
     pub place: usize,
+    pub what: &'static str,
 }
 
 impl fmt::Display for Refusal {
     fn fmt(&self, f: &mut fmt::Formatter<'_>) -> fmt::Result {
-        write!(f, "refused {} at byte {}", self.rule, self.place)
+        write!(f, "refused by rule {}, at byte {}: {}", self.rule, self.place, self.what)
     }
 }
 
@@ -37,12 +36,12 @@ pub fn formula(slice: &[u8]) -> Decoded<Formula> {
 
 fn whole<T>(slice: &[u8], decode: fn(&mut Bytes) -> Decoded<T>) -> Decoded<T> {
     if slice.len() > LONGEST {
-        return Err(Refusal { rule: 1, place: LONGEST });
+        return Err(Refusal { rule: 1, place: LONGEST, what: "it has more than 4,096 bytes" });
     }
     let mut bytes = Bytes { slice, at: 0 };
     let tree = decode(&mut bytes)?;
     if bytes.at < slice.len() {
-        return Err(Refusal { rule: 8, place: bytes.at });
+        return Err(Refusal { rule: 8, place: bytes.at, what: "bytes are left over" });
     }
     Ok(tree)
 }
@@ -62,9 +61,9 @@ struct Number {
 
 impl Number {
     /// This number, unless it breaks the rule.
-    fn unless(self, broken: bool, rule: u32) -> Decoded<Number> {
+    fn unless(self, broken: bool, rule: u32, what: &'static str) -> Decoded<Number> {
         if broken {
-            Err(Refusal { rule, place: self.place })
+            Err(Refusal { rule, place: self.place, what })
         } else {
             Ok(self)
         }
@@ -73,7 +72,7 @@ impl Number {
 
 impl Bytes<'_> {
     fn byte(&mut self) -> Decoded<u16> {
-        let end = Refusal { rule: 2, place: self.slice.len() };
+        let end = Refusal { rule: 2, place: self.slice.len(), what: "the bytes end early" };
         let byte = self.slice.get(self.at).ok_or(end)?;
         self.at += 1;
         Ok(u16::from(*byte))
@@ -86,12 +85,13 @@ impl Bytes<'_> {
             return Ok(Number { value: first, place });
         }
         let second = self.byte()?;
-        Number { value: first % 128 + 128 * second, place }.unless(second == 0 || second > 127, 3)
+        let number = Number { value: first % 128 + 128 * second, place };
+        number.unless(second == 0 || second > 127, 3, "a number is not in its one form")
     }
 
     /// A kind, of which so many are listed, from 0.
     fn kind(&mut self, listed: u16) -> Decoded<Number> {
         let kind = self.number()?;
-        kind.unless(kind.value >= listed, 4)
+        kind.unless(kind.value >= listed, 4, "no such kind is listed")
     }
 }

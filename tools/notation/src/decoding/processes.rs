@@ -2,11 +2,8 @@
 
 use super::terms::term;
 use super::{Bytes, Decoded};
+use crate::rules::{PROCESS_NODES, TOO_DEEP, VARIABLES};
 use crate::syntax::Process;
-
-/// So many process nodes are on one path at most, and so many variables in scope.
-const DEEPEST: usize = 64;
-const MOST_VARIABLES: usize = 12;
 
 /// Where a process stands: the process nodes around it, and the variables in scope.
 #[derive(Clone, Copy)]
@@ -22,7 +19,8 @@ pub fn model(bytes: &mut Bytes) -> Decoded<Process> {
 fn process(bytes: &mut Bytes, spot: Spot) -> Decoded<Process> {
     let kind = bytes.kind(8)?;
     let binds = matches!(kind.value, 1 | 3 | 5);
-    kind.unless(spot.around == DEEPEST || binds && spot.scope == MOST_VARIABLES, 7)?;
+    kind.unless(spot.around == PROCESS_NODES, 7, TOO_DEEP[1])?;
+    kind.unless(binds && spot.scope == VARIABLES, 7, TOO_DEEP[2])?;
     let scope = spot.scope;
     let inside = Spot { around: spot.around + 1, scope: scope + usize::from(binds) };
     Ok(match kind.value {

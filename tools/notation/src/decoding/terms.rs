@@ -1,10 +1,8 @@
 //! Terms and recipes.
 
 use super::{Bytes, Decoded};
+use crate::rules::{TERM_NODES, TOO_DEEP};
 use crate::syntax::{Term, LARGEST_NAME};
-
-/// So many term nodes are on one path at most.
-const DEEPEST: usize = 8;
 
 /// A term where so many variables, or aliases, are in scope.
 pub fn term(bytes: &mut Bytes, scope: usize) -> Decoded<Term> {
@@ -13,7 +11,7 @@ pub fn term(bytes: &mut Bytes, scope: usize) -> Decoded<Term> {
 
 /// A term with so many term nodes around it.
 fn below(bytes: &mut Bytes, scope: usize, around: usize) -> Decoded<Term> {
-    let kind = bytes.kind(8)?.unless(around == DEEPEST, 7)?;
+    let kind = bytes.kind(8)?.unless(around == TERM_NODES, 7, TOO_DEEP[0])?;
     let mut part = || below(bytes, scope, around + 1).map(Box::new);
     Ok(match kind.value {
         0 => name(bytes)?,
@@ -29,12 +27,12 @@ fn below(bytes: &mut Bytes, scope: usize, around: usize) -> Decoded<Term> {
 
 fn name(bytes: &mut Bytes) -> Decoded<Term> {
     let number = bytes.number()?;
-    Ok(Term::Name(number.unless(number.value > LARGEST_NAME, 5)?.value))
+    Ok(Term::Name(number.unless(number.value > LARGEST_NAME, 5, "a public name is over 255")?.value))
 }
 
 fn variable(bytes: &mut Bytes, scope: usize) -> Decoded<Term> {
     let number = bytes.number()?;
     let index = usize::from(number.value);
-    number.unless(index >= scope, 6)?;
+    number.unless(index >= scope, 6, "a variable or an alias is not in scope")?;
     Ok(Term::Variable(index))
 }

@@ -1,105 +1,81 @@
 //! A finding: names, abbreviations, two models, a formula, and the answer it should get.
 
-use super::{Parser, Read};
-use crate::fault::Fault;
-use crate::lexer::{lexemes, Token};
-use crate::scope::is_abbreviation;
-use crate::syntax::{Formula, Process};
+use super::{habits, Parser};
+use crate::fault::{in_order, Cause, Fault, Place};
+use crate::lexer::lexemes;
+use crate::rules;
+use crate::slice::Slice;
+use crate::tree::Tree;
 
 #[derive(Clone, Debug, PartialEq, Eq)]
 pub struct Finding {
     /// The comment on the first line.
     pub summary: String,
-    pub first: Process,
-    pub second: Process,
-    pub formula: Formula,
-    /// Result, slice, place and count.
-    pub answer: Option<[u32; 4]>,
+    /// The words of public names, with their numbers.
+    pub names: Vec<(String, usize)>,
+    /// The first model, the second model and the formula: as they are written, and as bytes.
+    pub trees: [Tree; 3],
+    pub slices: [Slice; 3],
+    /// Result, slice, place and count, and where that is written.
+    pub answer: Option<([u32; 4], Place)>,
 }
 
-const SECTIONS: [&str; 4] = ["first", "second", "formula", "answer"];
+/// What a text is read as.
+#[derive(Debug)]
+pub struct Reading {
+    /// None if the text has faults, unless all that they say is that the bytes break a rule.
+    pub finding: Option<Finding>,
+    pub faults: Vec<Fault>,
+    pub warnings: Vec<Fault>,
+}
 
-/// Reads one finding; nothing may follow it.
-pub fn read(text: &str) -> Result<Finding, Fault> {
-    let mut parser = Parser::new(lexemes(text)?);
-    parser.names()?;
-    let first = parser.section("first", Parser::process)?;
-    let second = parser.section("second", Parser::process)?;
-    let formula = parser.section("formula", Parser::formula)?;
-    let answer = parser.answer()?;
-    parser.end()?;
-    Ok(Finding { summary: summary(text), first, second, formula, answer })
+/// The slices, by what they hold.
+const SLICES: [&str; 3] = ["the first model", "the second model", "the formula"];
+
+/// Reads one finding without faults; nothing may follow it.
+pub fn read(text: &str) -> Result<Finding, Vec<Fault>> {
+    let reading = reading(text);
+    reading.finding.filter(|_| reading.faults.is_empty()).ok_or(reading.faults)
+}
+
+/// Reads one finding, and notes as many faults as can be told apart.
+pub fn reading(text: &str) -> Reading {
+    let (lexemes, comments) = habits::without_comments(lexemes(text));
+    let mut parser = Parser::new(lexemes);
+    for place in comments {
+        parser.note(place, Cause::Syntax, "a comment starts with `#`, and ends with its line");
+    }
+    parser.names();
+    let first = parser.section("first", Parser::process);
+    let second = parser.section("second", Parser::process);
+    let formula = parser.section("formula", Parser::formula);
+    let answer = parser.answer();
+    parser.end();
+
+    let trees = [first, second, formula];
+    let read = parser.faults.iter().all(|fault| matches!(fault.cause, Cause::Rule(_)));
+    parser.faults.extend(trees.iter().flatten().flat_map(rules::too_deep));
+    match trees {
+        [Some(first), Some(second), Some(formula)] if read => {
+            complete(parser, summary(text), [first, second, formula], answer)
+        }
+        _ => Reading { finding: None, faults: in_order(parser.faults), warnings: Vec::new() },
+    }
+}
+
+/// A reading of which the bytes are known.
+fn complete(mut parser: Parser, summary: String, trees: [Tree; 3], answer: Option<([u32; 4], Place)>) -> Reading {
+    let slices = [0, 1, 2].map(|index| Slice::of(&trees[index]));
+    parser.faults.extend(slices.iter().zip(SLICES).filter_map(|(slice, what)| rules::too_long(slice, what)));
+    for (place, message) in parser.scope.unused() {
+        parser.note(place, Cause::Doubt, message);
+    }
+    let names = parser.scope.names().iter().map(|name| (name.word.clone(), name.number)).collect();
+    let finding = Some(Finding { summary, names, trees, slices, answer });
+    Reading { finding, faults: in_order(parser.faults), warnings: in_order(parser.warnings) }
 }
 
 fn summary(text: &str) -> String {
     let line = text.lines().next().unwrap_or("");
     line.strip_prefix('#').unwrap_or("").trim().to_string()
-}
-
-impl Parser {
-    fn names(&mut self) -> Read<()> {
-        if !self.take_word("names") {
-            return Ok(());
-        }
-        self.name()?;
-        while self.take_symbol(",") {
-            self.name()?;
-        }
-        Ok(())
-    }
-
-    fn name(&mut self) -> Read<()> {
-        let (word, place) = self.word("a word for a public name")?;
-        self.symbol("=")?;
-        let number = self.public_name()?;
-        self.scope.name(&word, number).map_err(|message| Fault::new(place, message))
-    }
-
-    fn section<T>(&mut self, word: &str, inside: fn(&mut Parser) -> Read<T>) -> Read<T> {
-        while self.at_definition(self.at) {
-            self.definition()?;
-        }
-        self.keyword(word)?;
-        inside(self)
-    }
-
-    fn at_definition(&self, at: usize) -> bool {
-        matches!(self.token_at(at), Token::Word(word) if is_abbreviation(word))
-            && *self.token_at(at + 1) == Token::Symbol("=")
-    }
-
-    /// Notes where the text of an abbreviation stands, and passes over it.
-    fn definition(&mut self) -> Read<()> {
-        let (word, place) = self.word("an abbreviation")?;
-        self.symbol("=")?;
-        let start = self.at;
-        while !self.at_definition(self.at) && !self.at_section() {
-            self.at += 1;
-        }
-        self.scope.abbreviate(&word, start, self.at).map_err(|message| Fault::new(place, message))
-    }
-
-    fn at_section(&self) -> bool {
-        match self.token() {
-            Token::Word(word) => SECTIONS.contains(&word.as_str()),
-            token => *token == Token::End,
-        }
-    }
-
-    fn answer(&mut self) -> Read<Option<[u32; 4]>> {
-        if !self.take_word("answer") {
-            return Ok(None);
-        }
-        Ok(Some([self.number()?, self.number()?, self.number()?, self.number()?]))
-    }
-
-    fn end(&mut self) -> Read<()> {
-        if *self.token() != Token::End {
-            return Err(self.expected("the end of the text"));
-        }
-        let Some(unused) = self.scope.unused() else { return Ok(()) };
-        let message = format!("the abbreviation `{}` is not used", unused.word);
-        self.at = unused.start.saturating_sub(2);
-        Err(Fault::new(self.place(), message))
-    }
 }

@@ -1,108 +1,134 @@
 //! Formulas.
 
 use super::{Parser, Read};
-use crate::syntax::{Formula, Term};
-
-/// The label of a step formula; `Output` has bound its alias.
-enum Label {
-    Output(Term),
-    Input(Term, Term),
-    Silent,
-}
+use crate::fault::Place;
+use crate::tree::{Kind, Tree};
 
 impl Parser {
     /// What `or` separates; it groups to the right.
-    pub(super) fn formula(&mut self) -> Read<Formula> {
+    pub(super) fn formula(&mut self) -> Read<Tree> {
+        let place = self.place();
         let left = self.conjuncts()?;
-        if !self.take_word("or") {
+        if !self.take_or() {
             return Ok(left);
         }
         let right = self.node(Parser::formula)?;
-        Ok(not(and(not(left), not(right))))
+        let sides = vec![self.not(left.place, left), self.not(right.place, right)];
+        let both = self.tree(Kind::And, place, sides);
+        Ok(self.not(place, both))
     }
 
-    fn conjuncts(&mut self) -> Read<Formula> {
+    fn conjuncts(&mut self) -> Read<Tree> {
+        let place = self.place();
         let left = self.prefixed()?;
-        if !self.take_word("and") {
+        if !self.take_and() {
             return Ok(left);
         }
         let right = self.node(Parser::conjuncts)?;
-        Ok(and(left, right))
+        Ok(self.tree(Kind::And, place, vec![left, right]))
     }
 
-    fn prefixed(&mut self) -> Read<Formula> {
+    fn prefixed(&mut self) -> Read<Tree> {
+        let place = self.place();
         if self.take_symbol("(") {
             let inside = self.node(Parser::formula)?;
-            self.symbol(")")?;
+            self.close(")", "(", place)?;
             Ok(inside)
         } else if self.at_abbreviation() {
-            self.abbreviation(Parser::formula)
+            let instead = self.truth(place);
+            self.abbreviation(Parser::formula, instead)
         } else {
-            self.node(Parser::unary)
+            self.node(|parser| parser.unary(place))
         }
     }
 
-    fn unary(&mut self) -> Read<Formula> {
-        if self.take_word("not") {
-            Ok(not(self.prefixed()?))
+    fn unary(&mut self, place: Place) -> Read<Tree> {
+        if self.take_word("not") || self.take_bang("`!F` is written `not F`") {
+            let body = self.prefixed()?;
+            Ok(self.not(place, body))
         } else if self.take_symbol("<") {
-            self.step(">", |body| body, |step| step)
+            self.step(place)
         } else if self.take_symbol("[") {
-            self.step("]", not, not)
+            self.boxed(place)
         } else if self.take_word("true") {
-            Ok(Formula::Equal(Term::Name(0), Term::Name(0)))
+            Ok(self.truth(place))
+        } else if self.take_false() {
+            let truth = self.truth(place);
+            Ok(self.not(place, truth))
         } else if self.at_term() {
-            self.equation()
+            self.equation(place)
         } else {
-            Err(self.expected("a formula"))
+            Err(self.expected_formula())
         }
     }
 
-    fn equation(&mut self) -> Read<Formula> {
+    fn equation(&mut self, place: Place) -> Read<Tree> {
         let left = self.term()?;
-        let differ = self.take_symbol("!=");
-        if !differ {
-            self.symbol("=").map_err(|_| self.expected("`=` or `!=`"))?;
+        let differ = self.take_symbol("!=") || self.take_unequal();
+        if !differ && !self.take_symbol("=") && !self.take_double_equals() {
+            return Err(self.expected("`=` or `!=`"));
         }
-        let equal = Formula::Equal(left, self.term()?);
-        Ok(if differ { not(equal) } else { equal })
+        let right = self.term()?;
+        let equal = self.tree(Kind::Equal, place, vec![left, right]);
+        Ok(if differ { self.not(place, equal) } else { equal })
     }
 
-    /// The step formula whose opening bracket is passed, with the changes to body and whole that a box makes.
-    fn step(&mut self, close: &str, inner: fn(Formula) -> Formula, outer: fn(Formula) -> Formula) -> Read<Formula> {
-        let label = self.label()?;
-        self.symbol(close)?;
-        let body = Box::new(inner(self.prefixed()?));
-        Ok(outer(match label {
-            Label::Output(channel) => {
-                self.scope.unbind();
-                Formula::OutputStep { channel, body }
-            }
-            Label::Input(channel, message) => Formula::InputStep { channel, message, body },
-            Label::Silent => Formula::SilentStep(body),
-        }))
+    /// The step formula whose `<` is passed.
+    fn step(&mut self, place: Place) -> Read<Tree> {
+        let label = self.label(place)?;
+        self.close(">", "<", place)?;
+        let body = self.prefixed()?;
+        Ok(self.around(label, body))
     }
 
-    fn label(&mut self) -> Read<Label> {
+    /// The box whose `[` is passed: not, the step formula, not.
+    fn boxed(&mut self, place: Place) -> Read<Tree> {
+        let label = self.label(place)?;
+        self.close("]", "[", place)?;
+        let body = self.prefixed()?;
+        let inner = self.not(body.place, body);
+        let step = self.around(label, inner);
+        Ok(self.not(place, step))
+    }
+
+    /// The step formula of a label, around its body.
+    fn around(&mut self, mut label: Tree, body: Tree) -> Tree {
+        if label.kind == Kind::OutputStep {
+            self.scope.unbind();
+        }
+        label.parts.push(body);
+        label
+    }
+
+    /// A step formula without its body; an output step has bound its alias.
+    fn label(&mut self, place: Place) -> Read<Tree> {
         if self.take_word("out") {
+            let bracket = self.take_bracket("out c x");
             let channel = self.term()?;
-            self.binder()?;
-            Ok(Label::Output(channel))
+            self.take_comma(bracket);
+            let word = self.alias()?;
+            self.take_closing(bracket);
+            Ok(Tree { word: Some(word), ..self.tree(Kind::OutputStep, place, vec![channel]) })
         } else if self.take_word("in") {
+            let bracket = self.take_bracket("in c M");
             let channel = self.term()?;
-            Ok(Label::Input(channel, self.term()?))
+            self.take_comma(bracket);
+            let message = self.term()?;
+            self.take_closing(bracket);
+            Ok(self.tree(Kind::InputStep, place, vec![channel, message]))
         } else if self.take_word("tau") {
-            Ok(Label::Silent)
+            Ok(self.tree(Kind::SilentStep, place, Vec::new()))
         } else {
-            Err(self.expected("`out`, `in` or `tau`"))
+            Err(self.expected_label())
         }
     }
-}
 
-fn not(body: Formula) -> Formula {
-    Formula::Not(Box::new(body))
-}
+    fn truth(&self, place: Place) -> Tree {
+        let name = || self.leaf(Kind::Name, place, 0);
+        self.tree(Kind::Equal, place, vec![name(), name()])
+    }
 
-fn and(left: Formula, right: Formula) -> Formula {
-    Formula::And(Box::new(left), Box::new(right))
+    fn not(&self, place: Place, body: Tree) -> Tree {
+        self.tree(Kind::Not, place, vec![body])
+    }
 }

@@ -1,36 +1,42 @@
 //! Processes.
 
 use super::{Parser, Read};
+use crate::fault::Place;
 use crate::lexer::Token;
-use crate::syntax::Process;
+use crate::tree::{Kind, Tree};
 
 impl Parser {
     /// What `|` separates; it groups to the right.
-    pub(super) fn process(&mut self) -> Read<Process> {
+    pub(super) fn process(&mut self) -> Read<Tree> {
+        let place = self.place();
         let left = self.sequence()?;
-        if !self.take_symbol("|") {
+        if !self.take_symbol("|") && !self.take_double_bar() {
             return Ok(left);
         }
         let right = self.node(Parser::process)?;
-        Ok(Process::Par(Box::new(left), Box::new(right)))
+        Ok(self.tree(Kind::Par, place, vec![left, right]))
     }
 
-    fn sequence(&mut self) -> Read<Process> {
+    fn sequence(&mut self) -> Read<Tree> {
+        let place = self.place();
         if self.take_symbol("(") {
             let inside = self.node(Parser::process)?;
-            self.symbol(")")?;
+            self.close(")", "(", place)?;
             return Ok(inside);
         }
         if self.at_abbreviation() {
-            return self.abbreviation(Parser::process);
+            let nil = self.tree(Kind::Nil, place, Vec::new());
+            return self.abbreviation(Parser::process, nil);
         }
         match self.token().clone() {
-            Token::Word(word) => self.node(|parser| parser.sequence_from(&word)),
-            _ => Err(self.expected("a process")),
+            Token::Word(word) => self.node(|parser| parser.sequence_from(&word, place)),
+            _ if self.take_bang("`!P` is written `repl P`") => self.node(|parser| parser.replication(place)),
+            _ if self.take_zero() => Ok(self.tree(Kind::Nil, place, Vec::new())),
+            _ => Err(self.expected_process()),
         }
     }
 
-    fn sequence_from(&mut self, word: &str) -> Read<Process> {
+    fn sequence_from(&mut self, word: &str, place: Place) -> Read<Tree> {
         let read = match word {
             "nil" => Parser::nil,
             "new" => Parser::new_names,
@@ -39,79 +45,88 @@ impl Parser {
             "if" => Parser::branch,
             "let" => Parser::let_in,
             "repl" => Parser::replication,
-            _ => return Err(self.expected("a process")),
+            _ => return Err(self.expected_process()),
         };
         self.at += 1;
-        read(self)
+        read(self, place)
     }
 
-    fn nil(&mut self) -> Read<Process> {
-        Ok(Process::Nil)
+    fn nil(&mut self, place: Place) -> Read<Tree> {
+        Ok(self.tree(Kind::Nil, place, Vec::new()))
     }
 
-    fn replication(&mut self) -> Read<Process> {
-        Ok(Process::Repl(Box::new(self.sequence()?)))
+    fn replication(&mut self, place: Place) -> Read<Tree> {
+        let copy = self.sequence()?;
+        Ok(self.tree(Kind::Repl, place, vec![copy]))
     }
 
-    /// One name, then the others in the same way, or the dot.
-    fn new_names(&mut self) -> Read<Process> {
-        self.binder()?;
+    /// One name, then the others in the same way, or the dot. Each further one has the place of its word.
+    fn new_names(&mut self, place: Place) -> Read<Tree> {
+        let word = self.binder()?;
         let then = if self.take_symbol(",") {
-            self.node(Parser::new_names)?
+            let next = self.place();
+            self.node(|parser| parser.new_names(next))?
         } else {
-            self.symbol(".").map_err(|_| self.expected("`,` or `.`"))?;
+            if !self.take_symbol(".") && !self.take_semicolon() {
+                return Err(self.expected("`,` or `.`"));
+            }
             self.sequence()?
         };
         self.scope.unbind();
-        Ok(Process::New(Box::new(then)))
+        Ok(Tree { word: Some(word), ..self.tree(Kind::New, place, vec![then]) })
     }
 
-    fn output(&mut self) -> Read<Process> {
+    fn output(&mut self, place: Place) -> Read<Tree> {
+        let open = self.place();
         self.symbol("(")?;
         let channel = self.term()?;
         self.symbol(",")?;
         let message = self.term()?;
-        self.symbol(")")?;
+        self.close(")", "(", open)?;
         let then = self.rest()?;
-        Ok(Process::Output { channel, message, then })
+        Ok(self.tree(Kind::Output, place, vec![channel, message, then]))
     }
 
-    fn input(&mut self) -> Read<Process> {
+    fn input(&mut self, place: Place) -> Read<Tree> {
+        let open = self.place();
         self.symbol("(")?;
         let channel = self.term()?;
         self.symbol(",")?;
-        self.binder()?;
-        self.symbol(")")?;
+        let word = self.binder()?;
+        self.close(")", "(", open)?;
         let then = self.rest()?;
         self.scope.unbind();
-        Ok(Process::Input { channel, then })
+        Ok(Tree { word: Some(word), ..self.tree(Kind::Input, place, vec![channel, then]) })
     }
 
-    /// What follows an output or input; left off, it is nil.
-    fn rest(&mut self) -> Read<Box<Process>> {
-        let then = if self.take_symbol(".") { self.sequence()? } else { Process::Nil };
-        Ok(Box::new(then))
+    /// What follows an output or input; left off, it is nil, at the place behind.
+    fn rest(&mut self) -> Read<Tree> {
+        if self.take_symbol(".") || self.take_semicolon() {
+            self.sequence()
+        } else {
+            Ok(self.tree(Kind::Nil, self.place(), Vec::new()))
+        }
     }
 
-    fn branch(&mut self) -> Read<Process> {
+    fn branch(&mut self, place: Place) -> Read<Tree> {
         let left = self.term()?;
-        self.symbol("=")?;
+        self.equals()?;
         let right = self.term()?;
-        self.keyword("then")?;
-        let then = Box::new(self.sequence()?);
-        self.keyword("else")?;
-        let otherwise = Box::new(self.sequence()?);
-        Ok(Process::If { left, right, then, otherwise })
+        self.then()?;
+        let then = self.sequence()?;
+        let otherwise = if self.take_word("else") { self.sequence()? } else { self.no_else() };
+        Ok(self.tree(Kind::If, place, vec![left, right, then, otherwise]))
     }
 
-    fn let_in(&mut self) -> Read<Process> {
-        let word = self.word("a word to bind")?;
-        self.symbol("=")?;
+    fn let_in(&mut self, place: Place) -> Read<Tree> {
+        let (word, at) = self.word("a word to bind")?;
+        self.skip_type();
+        self.equals()?;
         let value = self.term()?;
         self.keyword("in")?;
-        self.bind(word)?;
-        let then = Box::new(self.sequence()?);
+        self.bind(&word, at);
+        let then = self.sequence()?;
         self.scope.unbind();
-        Ok(Process::Let { value, then })
+        Ok(Tree { word: Some(word), ..self.tree(Kind::Let, place, vec![value, then]) })
     }
 }

@@ -1,78 +1,104 @@
 //! Terms and recipes.
 
 use super::{Parser, Read};
-use crate::fault::Fault;
+use crate::fault::{Cause, Place};
 use crate::lexer::{Token, RESERVED};
-use crate::syntax::{Term, LARGEST_NAME};
+use crate::scope::Meaning;
+use crate::slice::LARGEST_NUMBER;
+use crate::syntax::LARGEST_NAME;
+use crate::tree::{Kind, Tree};
 
-type Unary = fn(Box<Term>) -> Term;
-type Binary = fn(Box<Term>, Box<Term>) -> Term;
-
-const FUNCTIONS: [&str; 6] = ["pair", "fst", "snd", "enc", "dec", "mac"];
+/// The kind of term that a reserved word starts, and how many terms that has.
+pub(super) fn function(word: &str) -> Option<(Kind, usize)> {
+    match word {
+        "pair" => Some((Kind::Pair, 2)),
+        "fst" => Some((Kind::Fst, 1)),
+        "snd" => Some((Kind::Snd, 1)),
+        "enc" => Some((Kind::Enc, 2)),
+        "dec" => Some((Kind::Dec, 2)),
+        "mac" => Some((Kind::Mac, 2)),
+        _ => None,
+    }
+}
 
 impl Parser {
     /// Whether a term starts here, known or not.
     pub(super) fn at_term(&self) -> bool {
         match self.token() {
             Token::Number(_) => true,
-            Token::Word(word) => FUNCTIONS.contains(&word.as_str()) || !RESERVED.contains(&word.as_str()),
+            Token::Word(word) => function(word).is_some() || !RESERVED.contains(&word.as_str()),
             _ => false,
         }
     }
 
-    pub(super) fn term(&mut self) -> Read<Term> {
+    pub(super) fn term(&mut self) -> Read<Tree> {
         if !self.at_term() {
-            return Err(self.expected("a term"));
+            return Err(self.expected_term());
         }
         self.node(|parser| match parser.token().clone() {
-            Token::Word(word) => parser.term_from(&word),
-            _ => Ok(Term::Name(parser.public_name()?)),
+            Token::Word(word) => match function(&word) {
+                Some((kind, arity)) => parser.applied(kind, arity),
+                None => parser.known(&word),
+            },
+            _ => parser.number_as_name(),
         })
     }
 
-    pub(super) fn public_name(&mut self) -> Read<u16> {
+    /// A public name's number. One over the limit is noted; no two bytes hold one over 16,383.
+    pub(super) fn public_name(&mut self) -> Read<usize> {
         let place = self.place();
-        let number = self.number()?;
-        match u16::try_from(number) {
-            Ok(name) if name <= LARGEST_NAME => Ok(name),
-            _ => Err(Fault::new(place, format!("a public name is 0 to {LARGEST_NAME}, found {number}"))),
+        let number = self.number()? as usize;
+        if number > usize::from(LARGEST_NAME) {
+            let cause = if number > LARGEST_NUMBER { Cause::Scope } else { Cause::Rule(5) };
+            self.note(place, cause, format!("a public name is 0 to {LARGEST_NAME}, found {number} (rule 5)"));
+        }
+        Ok(number)
+    }
+
+    fn number_as_name(&mut self) -> Read<Tree> {
+        let place = self.place();
+        let number = self.public_name()?;
+        if let Some(word) = self.scope.word_of(number) {
+            let message = format!("the public name {number} is `{word}`; should it be the same here?");
+            self.note(place, Cause::Doubt, message);
+        }
+        Ok(self.leaf(Kind::Name, place, number))
+    }
+
+    fn applied(&mut self, kind: Kind, arity: usize) -> Read<Tree> {
+        let place = self.place();
+        self.at += 1;
+        let open = self.place();
+        self.symbol("(")?;
+        let mut parts = vec![self.term()?];
+        while parts.len() < arity {
+            self.symbol(",")?;
+            parts.push(self.term()?);
+        }
+        self.close(")", "(", open)?;
+        Ok(self.tree(kind, place, parts))
+    }
+
+    fn known(&mut self, word: &str) -> Read<Tree> {
+        let place = self.place();
+        self.at += 1;
+        match self.scope.meaning(word) {
+            _ if self.is_symbol("(") => self.no_function(word, place),
+            Some(Meaning::Name(number)) => Ok(self.leaf(Kind::Name, place, number)),
+            Some(Meaning::Variable(index)) => Ok(self.leaf(Kind::Variable, place, index)),
+            None => Ok(self.unknown(word, place)),
         }
     }
 
-    fn term_from(&mut self, word: &str) -> Read<Term> {
-        match word {
-            "pair" => self.binary_term(Term::Pair),
-            "enc" => self.binary_term(Term::Enc),
-            "dec" => self.binary_term(Term::Dec),
-            "mac" => self.binary_term(Term::Mac),
-            "fst" => self.unary_term(Term::Fst),
-            "snd" => self.unary_term(Term::Snd),
-            _ => self.known(word),
+    /// An unknown word, told once; name 0 stands for it.
+    fn unknown(&mut self, word: &str, place: Place) -> Tree {
+        let message = match word {
+            "_" => "`_` binds what is not used, and stands for nothing".to_string(),
+            _ => format!("unknown word `{word}`: it is no public name, and nothing around binds it (rule 6)"),
+        };
+        if !self.faults.iter().any(|fault| fault.message == message) {
+            self.note(place, Cause::Scope, message);
         }
-    }
-
-    fn unary_term(&mut self, build: Unary) -> Read<Term> {
-        self.at += 1;
-        self.symbol("(")?;
-        let part = self.term()?;
-        self.symbol(")")?;
-        Ok(build(Box::new(part)))
-    }
-
-    fn binary_term(&mut self, build: Binary) -> Read<Term> {
-        self.at += 1;
-        self.symbol("(")?;
-        let left = self.term()?;
-        self.symbol(",")?;
-        let right = self.term()?;
-        self.symbol(")")?;
-        Ok(build(Box::new(left), Box::new(right)))
-    }
-
-    fn known(&mut self, word: &str) -> Read<Term> {
-        let unknown = || format!("unknown word `{word}`: it is no public name, and nothing around binds it");
-        let term = self.scope.term(word).ok_or_else(|| Fault::new(self.place(), unknown()))?;
-        self.at += 1;
-        Ok(term)
+        self.leaf(Kind::Name, place, 0)
     }
 }

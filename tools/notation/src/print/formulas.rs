@@ -31,7 +31,8 @@ fn shape(formula: &Formula, aliases: usize) -> Shape<'_> {
         Formula::Not(body) => negated(body, aliases),
         Formula::And(left, right) => Shape::And(left, right),
         Formula::OutputStep { channel, body } => {
-            Shape::Prefix(format!("<out {} a{aliases}>", recipe(channel)), body, aliases + 1)
+            let word = if body.has_alias(aliases) { format!("a{aliases}") } else { "_".to_string() };
+            Shape::Prefix(format!("<out {} {word}>", recipe(channel)), body, aliases + 1)
         }
         Formula::InputStep { channel, message, body } => {
             Shape::Prefix(format!("<in {} {}>", recipe(channel), recipe(message)), body, aliases)

@@ -1,4 +1,5 @@
-//! Trees in the notation: variables are v0, v1 and so on, aliases a0, a1 and so on, public names numbers.
+//! Trees in the notation: variables are v0, v1 and so on, aliases a0, a1 and so on, public names numbers. What is bound and
+//! not used is `_`.
 
 mod formulas;
 mod processes;

@@ -83,14 +83,27 @@ fn broken_part(process: &Process, bound: usize, margin: Margin) -> String {
 /// What stands before the rest of a sequence, that rest, and the number of variables in scope there.
 fn prefix(process: &Process, bound: usize) -> Option<(String, &Process, usize)> {
     match process {
-        Process::New(then) => Some((format!("new v{bound}."), then, bound + 1)),
+        Process::New(then) => Some((format!("new {}.", word(then, bound)), then, bound + 1)),
         Process::Output { channel, message, then } => {
             Some((format!("out({}, {})", term(channel), term(message)), then, bound))
         }
-        Process::Input { channel, then } => Some((format!("in({}, v{bound})", term(channel)), then, bound + 1)),
-        Process::Let { value, then } => Some((format!("let v{bound} = {} in", term(value)), then, bound + 1)),
+        Process::Input { channel, then } => {
+            Some((format!("in({}, {})", term(channel), word(then, bound)), then, bound + 1))
+        }
+        Process::Let { value, then } => {
+            Some((format!("let {} = {} in", word(then, bound), term(value)), then, bound + 1))
+        }
         Process::Repl(copy) => Some(("repl".to_string(), copy, bound)),
         Process::Nil | Process::If { .. } | Process::Par(..) => None,
+    }
+}
+
+/// The word for the variable of this number, which is bound in `then`.
+fn word(then: &Process, index: usize) -> String {
+    if then.has_variable(index) {
+        format!("v{index}")
+    } else {
+        "_".to_string()
     }
 }
 

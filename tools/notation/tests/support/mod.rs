@@ -3,6 +3,7 @@
 
 pub mod ebnf;
 
+use notation::decoding;
 use notation::fault::Fault;
 use notation::syntax::{Formula, Process, Term};
 use notation::Finding;
@@ -10,19 +11,35 @@ use std::fs;
 use std::path::{Path, PathBuf};
 
 pub fn finding(text: &str) -> Finding {
-    notation::read(text).unwrap_or_else(|fault| panic!("{fault}, in\n{text}"))
+    notation::read(text).unwrap_or_else(|faults| panic!("{}, in\n{text}", told(&faults).join("\n")))
 }
 
+/// The first fault of a text.
 pub fn fault(text: &str) -> Fault {
-    notation::read(text).err().unwrap_or_else(|| panic!("read without a fault:\n{text}"))
+    notation::read(text).err().and_then(|faults| faults.into_iter().next()).unwrap_or_else(|| panic!("good:\n{text}"))
+}
+
+pub fn told(faults: &[Fault]) -> Vec<String> {
+    faults.iter().map(Fault::to_string).collect()
+}
+
+pub fn bytes(finding: &Finding) -> [Vec<u8>; 3] {
+    finding.slices.clone().map(|slice| slice.bytes)
+}
+
+/// The trees that the bytes of a finding are.
+pub fn trees(finding: &Finding) -> (Process, Process, Formula) {
+    let [first, second, formula] = bytes(finding);
+    let model = |bytes: &[u8]| decoding::process(bytes).unwrap_or_else(|refusal| panic!("{refusal}"));
+    (model(&first), model(&second), decoding::formula(&formula).unwrap_or_else(|refusal| panic!("{refusal}")))
 }
 
 pub fn process(text: &str) -> Process {
-    finding(&format!("first\n{text}\nsecond nil formula true")).first
+    trees(&finding(&format!("first\n{text}\nsecond nil formula true"))).0
 }
 
 pub fn formula(text: &str) -> Formula {
-    finding(&format!("first nil second nil formula\n{text}")).formula
+    trees(&finding(&format!("first nil second nil formula\n{text}"))).2
 }
 
 /// What has this path in the repository.
