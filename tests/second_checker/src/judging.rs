@@ -30,7 +30,7 @@ impl Judging {
 
     /// Judges at a state as it is reached. Its limits are looked at here, once for all formulas judged there. Truth
     /// after a limit is of no use to any answer, so it is given as false.
-    fn reached(&mut self, formula: &Formula, state: Result<State, TooLarge>) -> Result<bool, Spent> {
+    pub(crate) fn reached(&mut self, formula: &Formula, state: Result<State, TooLarge>) -> Result<bool, Spent> {
         match state {
             Ok(state) if !state.is_over_limit() => self.judge(formula, &state),
             _ => {

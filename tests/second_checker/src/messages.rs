@@ -8,7 +8,12 @@ pub const NODES: usize = 255;
 
 /// A normal form over the limit arose.
 #[derive(Clone, Copy, Debug, PartialEq, Eq)]
-pub struct TooLarge;
+pub struct TooLarge {
+    /// The nodes of that normal form.
+    pub nodes: usize,
+    /// The address of the term that it is the normal form of.
+    pub term: usize,
+}
 
 /// A message in normal form.
 #[derive(Clone, Debug)]
@@ -24,7 +29,7 @@ struct Node {
 #[derive(Debug, PartialEq, Eq)]
 pub enum Shape {
     Public(u16),
-    Private(u32),
+    Private(u32, Origin),
     Pair(Message, Message),
     Fst(Message),
     Snd(Message),
@@ -32,6 +37,20 @@ pub enum Shape {
     Dec(Message, Message),
     Mac(Message, Message),
 }
+
+/// Where a private name was made: the address of the process that its `new` binds it in. Copies make different names at
+/// one origin. Names are told apart by their numbers: where a name was made is no part of what it is, so any two origins
+/// count as equal.
+#[derive(Clone, Copy, Debug)]
+pub struct Origin(pub usize);
+
+impl PartialEq for Origin {
+    fn eq(&self, _: &Origin) -> bool {
+        true
+    }
+}
+
+impl Eq for Origin {}
 
 impl PartialEq for Message {
     fn eq(&self, other: &Message) -> bool {
@@ -46,8 +65,8 @@ impl Message {
         Message(Rc::new(Node { size: 1, shape: Shape::Public(name) }))
     }
 
-    pub fn private(name: u32) -> Message {
-        Message(Rc::new(Node { size: 1, shape: Shape::Private(name) }))
+    pub fn private(name: u32, origin: Origin) -> Message {
+        Message(Rc::new(Node { size: 1, shape: Shape::Private(name, origin) }))
     }
 
     /// The number of nodes.
@@ -59,20 +78,20 @@ impl Message {
         &self.0.shape
     }
 
-    /// A message no equation applies to at its root.
-    fn node(shape: Shape) -> Result<Message, TooLarge> {
+    /// A message no equation applies to at its root, or none where it is over the limit.
+    fn node(shape: Shape) -> Option<Message> {
         let size = 1 + shape.parts_size();
         if size > NODES {
-            return Err(TooLarge);
+            return None;
         }
-        Ok(Message(Rc::new(Node { size, shape })))
+        Some(Message(Rc::new(Node { size, shape })))
     }
 }
 
 impl Shape {
     fn parts_size(&self) -> usize {
         match self {
-            Shape::Public(_) | Shape::Private(_) => 0,
+            Shape::Public(_) | Shape::Private(..) => 0,
             Shape::Fst(m) | Shape::Snd(m) => m.size(),
             Shape::Pair(m, n) | Shape::Enc(m, n) | Shape::Dec(m, n) | Shape::Mac(m, n) => m.size() + n.size(),
         }
@@ -82,10 +101,15 @@ impl Shape {
 /// The normal form of a term, given the messages of its variables or aliases. Every submessage's normal form is under
 /// the limit too, though an equation may drop it from the whole.
 pub fn normal_form(term: &Term, bound: &[Message]) -> Result<Message, TooLarge> {
-    let work = |part: &Term| normal_form(part, bound);
+    worked(term, bound).ok_or_else(|| too_large(term, bound))
+}
+
+/// The normal form, or none where one over the limit arises.
+fn worked(term: &Term, bound: &[Message]) -> Option<Message> {
+    let work = |part: &Term| worked(part, bound);
     match term {
-        Term::Name(name) => Ok(Message::public(*name)),
-        Term::Variable(variable) => Ok(bound[*variable].clone()),
+        Term::Name(name) => Some(Message::public(*name)),
+        Term::Variable(variable) => Some(bound[*variable].clone()),
         Term::Pair(m, n) => Message::node(Shape::Pair(work(m)?, work(n)?)),
         Term::Fst(m) => fst(work(m)?),
         Term::Snd(m) => snd(work(m)?),
@@ -95,30 +119,52 @@ pub fn normal_form(term: &Term, bound: &[Message]) -> Result<Message, TooLarge> 
     }
 }
 
-fn fst(message: Message) -> Result<Message, TooLarge> {
+fn fst(message: Message) -> Option<Message> {
     match message.shape() {
-        Shape::Pair(first, _) => Ok(first.clone()),
+        Shape::Pair(first, _) => Some(first.clone()),
         _ => Message::node(Shape::Fst(message)),
     }
 }
 
-fn snd(message: Message) -> Result<Message, TooLarge> {
+fn snd(message: Message) -> Option<Message> {
     match message.shape() {
-        Shape::Pair(_, second) => Ok(second.clone()),
+        Shape::Pair(_, second) => Some(second.clone()),
         _ => Message::node(Shape::Snd(message)),
     }
 }
 
-fn enc(message: Message, key: Message) -> Result<Message, TooLarge> {
+fn enc(message: Message, key: Message) -> Option<Message> {
     match message.shape() {
-        Shape::Dec(plain, same) if *same == key => Ok(plain.clone()),
+        Shape::Dec(plain, same) if *same == key => Some(plain.clone()),
         _ => Message::node(Shape::Enc(message, key)),
     }
 }
 
-fn dec(message: Message, key: Message) -> Result<Message, TooLarge> {
+fn dec(message: Message, key: Message) -> Option<Message> {
     match message.shape() {
-        Shape::Enc(plain, same) if *same == key => Ok(plain.clone()),
+        Shape::Enc(plain, same) if *same == key => Some(plain.clone()),
         _ => Message::node(Shape::Dec(message, key)),
+    }
+}
+
+/// Where in a term a normal form over the limit arises first. The parts are worked once more, so that only a term that
+/// is over the limit pays for this.
+#[cold]
+fn too_large(term: &Term, bound: &[Message]) -> TooLarge {
+    let mut nodes = 1;
+    for part in parts(term) {
+        match worked(part, bound) {
+            Some(message) => nodes += message.size(),
+            None => return too_large(part, bound),
+        }
+    }
+    TooLarge { nodes, term: term as *const Term as usize }
+}
+
+fn parts(term: &Term) -> Vec<&Term> {
+    match term {
+        Term::Name(_) | Term::Variable(_) => Vec::new(),
+        Term::Fst(m) | Term::Snd(m) => vec![m],
+        Term::Pair(m, n) | Term::Enc(m, n) | Term::Dec(m, n) | Term::Mac(m, n) => vec![m, n],
     }
 }

@@ -1,7 +1,7 @@
 //! States: settled threads, aliases and private names, and the limits on them (document 01, "Steps" and "Judging and
 //! its count").
 
-use crate::messages::{normal_form, Message, TooLarge};
+use crate::messages::{normal_form, Message, Origin, TooLarge};
 use crate::syntax::Process;
 use std::rc::Rc;
 
@@ -99,7 +99,7 @@ impl<'m> Settling<'m> {
         match process {
             Process::Nil => Ok(()),
             Process::New(then) => {
-                let name = Message::private(self.names);
+                let name = Message::private(self.names, Origin(&**then as *const Process as usize));
                 self.names += 1;
                 self.settle_with(name, then)
             }

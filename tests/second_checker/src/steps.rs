@@ -35,6 +35,15 @@ pub struct SilentStep<'m> {
     names: u32,
 }
 
+impl<'m> SilentStep<'m> {
+    /// The threads that output and input in this step of a state. They are looked up each time: judging has no need of
+    /// them.
+    pub fn acting(&self, state: &State<'m>) -> (Rc<Thread<'m>>, Rc<Thread<'m>>) {
+        let threads = opened(&state.threads, &self.openings);
+        (threads[self.output].clone(), threads[self.input].clone())
+    }
+}
+
 /// The output offers of a state on one channel, left to right.
 pub fn outputs_on<'m>(state: &State<'m>, channel: &Message) -> Vec<Offer<'m>> {
     offers(

@@ -2,17 +2,12 @@
 
 mod bytes;
 
-use bytes::hex;
+use bytes::model;
 use second_checker::messages::{Message, Shape};
-use second_checker::reading;
 use second_checker::states::{State, Thread};
 use second_checker::steps::{after_input, after_output, after_silent, inputs_on, outputs_on, silent_steps};
 use second_checker::syntax::Process;
 use std::ops::ControlFlow;
-
-fn model(text: &str) -> Process {
-    reading::process(&hex(text)).expect("a well-formed model")
-}
 
 fn start(model: &Process) -> State<'_> {
     State::start(model).expect("a start state under the limit on normal forms")
@@ -21,7 +16,7 @@ fn start(model: &Process) -> State<'_> {
 fn message(message: &Message) -> String {
     match message.shape() {
         Shape::Public(name) => name.to_string(),
-        Shape::Private(name) => format!("n{name}"),
+        Shape::Private(name, _) => format!("n{name}"),
         _ => "...".to_string(),
     }
 }
