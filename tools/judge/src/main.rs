@@ -1,0 +1,47 @@
+//! Judges findings: `judge [--budget N] [--quiet | --why] FOLDER...`.
+
+use judge::arguments::{parse, Call};
+use judge::help::{HELP, VERSION};
+use judge::notes::say;
+use judge::report;
+use std::ffi::OsString;
+use std::io::{self, ErrorKind, Write};
+use std::process::ExitCode;
+
+/// The status where there is no answer, or the call is wrong.
+const NO_ANSWER: u8 = 2;
+
+fn main() -> ExitCode {
+    let words: Vec<OsString> = std::env::args_os().skip(1).collect();
+    let status = match parse(&words) {
+        Ok(call) => answer(&call).unwrap_or_else(|error| unwritten(&error)),
+        Err(message) => {
+            say(&message);
+            NO_ANSWER
+        }
+    };
+    ExitCode::from(status)
+}
+
+/// Does what the call asks for, and gives the exit status.
+fn answer(call: &Call) -> io::Result<u8> {
+    let mut out = io::stdout().lock();
+    match call {
+        Call::Help => out.write_all(HELP.as_bytes()).and_then(|()| out.flush()).map(|()| 0),
+        Call::Version => out.write_all(VERSION.as_bytes()).and_then(|()| out.flush()).map(|()| 0),
+        Call::Judge(task) => report::run(task, &mend(), &mut out).map(|summary| summary.status()),
+    }
+}
+
+/// The command that writes files of bytes anew, as the one who calls this program can call it.
+fn mend() -> String {
+    std::env::var("GUBZSENIL_ENCODE").unwrap_or("encode".to_string())
+}
+
+/// Standard output cannot be written to. Whoever closed a pipe knows that.
+fn unwritten(error: &io::Error) -> u8 {
+    if error.kind() != ErrorKind::BrokenPipe {
+        say(&format!("standard output: {error}"));
+    }
+    NO_ANSWER
+}

@@ -1,0 +1,186 @@
+//! Why a formula is true or false of a model, line by line, in the words of the finding.
+
+use super::shape::{self, shape, under, Shape};
+use super::steps;
+use super::words::Words;
+use notation::tree::{Kind, Tree};
+use second_checker::explanation::{Reason, Step};
+
+/// The lines that tell a reason.
+pub struct Telling<'f> {
+    pub words: Words<'f>,
+    aliases: Vec<String>,
+    pub lines: Vec<String>,
+    indent: usize,
+}
+
+fn verb(truth: bool) -> &'static str {
+    if truth {
+        "holds"
+    } else {
+        "fails"
+    }
+}
+
+impl<'f> Telling<'f> {
+    pub fn new(words: Words<'f>) -> Telling<'f> {
+        Telling { words, aliases: Vec::new(), lines: Vec::new(), indent: 1 }
+    }
+
+    fn line(&mut self, text: &str) {
+        self.lines.push(format!("{}{text}", "  ".repeat(self.indent)));
+    }
+
+    /// Tells something further in; what comes on its path is forgotten after it.
+    fn inside(&mut self, tell: impl FnOnce(&mut Self)) {
+        let path = self.words.path();
+        self.indent += 1;
+        tell(self);
+        self.indent -= 1;
+        self.words.leave(path);
+    }
+
+    pub fn tell(&mut self, formula: &Tree, reason: &Reason) {
+        match shape(formula, reason) {
+            Shape::Equation { formula, differ, reason } => self.equation(formula, differ, reason),
+            Shape::Modal { step, boxed, reason } => self.modal(step, boxed, reason),
+            Shape::Sides { sides, or, reason } => self.sides(sides, or, reason),
+            Shape::Negation { body, reason } => {
+                self.line(&format!(
+                    "`not` {}, because what it denies {}:",
+                    verb(!reason.truth()),
+                    verb(reason.truth())
+                ));
+                self.inside(|telling| telling.tell(body, reason));
+            }
+        }
+    }
+
+    fn equation(&mut self, formula: &Tree, differ: bool, reason: &Reason) {
+        let Reason::Equal { left, right } = reason else { return };
+        if !differ && formula.parts.iter().all(|part| (part.kind, part.number) == (Kind::Name, Some(0))) {
+            return self.line("true holds");
+        }
+        let [left_text, right_text] = [0, 1].map(|side| self.words.recipe(&formula.parts[side], &self.aliases));
+        let sign = if differ { "!=" } else { "=" };
+        let holds = (left == right) != differ;
+        if left_text == right_text {
+            return self.line(&format!("{left_text} {sign} {right_text} {}", verb(holds)));
+        }
+        let [left_message, right_message] = [left, right].map(|message| self.words.message(message));
+        let is = |text: &str, message: &str| (text != message).then(|| format!("{text} is {message}"));
+        let told: Vec<String> = match left == right {
+            true => vec![format!("both are {left_message}")],
+            false => is(&left_text, &left_message).into_iter().chain(is(&right_text, &right_message)).collect(),
+        };
+        let told = if told.is_empty() { String::new() } else { format!(": {}", told.join(", ")) };
+        self.line(&format!("{left_text} {sign} {right_text} {}{told}", verb(holds)));
+    }
+
+    fn sides(&mut self, sides: [&Tree; 2], or: bool, reason: &Reason) {
+        let word = if or { "or" } else { "and" };
+        let all = 1 + shape::sides(sides[1], or);
+        let told = shape::told(sides, or, reason, 1);
+        if let (Reason::Side { .. }, [(number, (tree, reason))]) = (reason, &told[..]) {
+            let which = match (all, number) {
+                (2, 1) => "the left side".to_string(),
+                (2, _) => "the right side".to_string(),
+                _ => format!("side {number} of the {all}"),
+            };
+            self.line(&format!("{which} of `{word}` {}:", verb(or)));
+            return self.tell(tree, reason);
+        }
+        self.line(&format!("each side of `{word}` {}:", verb(!or)));
+        for (_, (tree, reason)) in told {
+            let first = self.lines.len();
+            self.inside(|telling| telling.inside(|telling| telling.tell(tree, reason)));
+            self.mark(first);
+        }
+    }
+
+    /// Puts a dash before a line that is told two further in.
+    fn mark(&mut self, line: usize) {
+        let indent = "  ".repeat(self.indent + 1);
+        if let Some(line) = self.lines.get_mut(line) {
+            *line = format!("{indent}- {}", line.trim_start());
+        }
+    }
+
+    fn modal(&mut self, step: &Tree, boxed: bool, reason: &Reason) {
+        let label = self.label(step, boxed);
+        match reason {
+            Reason::Step { step: taken, number, of, reason } => {
+                let place = self.told(step, taken);
+                let (by, which) = (if boxed { "after" } else { "by" }, which(*number, *of));
+                self.line(&format!("{label} {} {by} {place}{which}", verb(!boxed)));
+                self.body(step, boxed, reason);
+            }
+            Reason::NoStep { tried, of } => self.each(step, boxed, tried, *of),
+            _ => {}
+        }
+    }
+
+    /// A step formula that fails after all steps, or a box that holds after all of them.
+    fn each(&mut self, step: &Tree, boxed: bool, tried: &[(Step, Reason)], of: usize) {
+        let (label, verb) = (self.label(step, boxed), verb(boxed));
+        match (tried, of) {
+            (_, 0) => self.line(&format!("{label} {verb}: there is no such step")),
+            ([(taken, reason)], 1) => {
+                let place = self.told(step, taken);
+                self.line(&format!("{label} {verb} after its only step, {place}"));
+                self.body(step, boxed, reason);
+            }
+            ([], _) => self.line(&format!("{label} {verb} after each of its {of} steps, which are not told")),
+            _ => {
+                self.line(&format!("{label} {verb} after each of its {of} steps:"));
+                for (number, (taken, reason)) in tried.iter().enumerate() {
+                    self.inside(|telling| {
+                        let place = telling.told(step, taken);
+                        telling.line(&format!("{}. {place}", number + 1));
+                        telling.inside(|telling| telling.body(step, boxed, reason));
+                    });
+                }
+                if of > tried.len() {
+                    self.inside(|telling| telling.line(&format!("and so after {} more", of - tried.len())));
+                }
+            }
+        }
+    }
+
+    fn body(&mut self, step: &Tree, boxed: bool, reason: &Reason) {
+        let Some(body) = step.parts.last() else { return };
+        let body = if boxed { &body.parts[0] } else { body };
+        let alias = step.word.clone();
+        self.aliases.extend(alias.iter().cloned());
+        self.tell(body, under(boxed, reason));
+        self.aliases.truncate(self.aliases.len() - alias.iter().count());
+    }
+
+    /// A step, for its label. What an input takes is not told again where the label has it as a word.
+    fn told(&mut self, step: &Tree, taken: &Step) -> String {
+        let in_label = step.kind == Kind::InputStep && step.parts[1].number.is_some();
+        steps::told(taken, step.word.as_deref(), !in_label, &mut self.words)
+    }
+
+    fn label(&self, step: &Tree, boxed: bool) -> String {
+        let recipe = |part: usize| self.words.recipe(&step.parts[part], &self.aliases);
+        let inside = match step.kind {
+            Kind::OutputStep => format!("out {} {}", recipe(0), step.word.as_deref().unwrap_or("_")),
+            Kind::InputStep => format!("in {} {}", recipe(0), recipe(1)),
+            _ => "tau".to_string(),
+        };
+        if boxed {
+            format!("[{inside}]")
+        } else {
+            format!("<{inside}>")
+        }
+    }
+}
+
+fn which(number: usize, of: usize) -> String {
+    if of > 1 {
+        format!(" (step {number} of {of})")
+    } else {
+        String::new()
+    }
+}

@@ -1,0 +1,202 @@
+//! Explanations: which limit was met, in which words, and that none is given where the second checker disagrees.
+
+mod support;
+
+use judge::why::{explain, explanation, Explanation};
+use library::Answer;
+use notation::folder::Loaded;
+use std::path::Path;
+use support::{bytes, judged, of_slices, written, BUDGET};
+
+/// Messages of 3, 7, 15, 31, 63, 127 and 255 nodes.
+const LARGE: &str = "let a = pair(0, 0) in let b = pair(a, a) in let c = pair(b, b) in let d = pair(c, c) in
+let e = pair(d, d) in let f = pair(e, e) in let g = pair(f, f) in";
+
+fn told(loaded: &Loaded, answer: Answer) -> Vec<String> {
+    match explanation(&loaded.slices, loaded.text.clone(), answer, BUDGET) {
+        Explanation::Told(lines) => lines,
+        Explanation::Disagrees(message) => panic!("{message}"),
+    }
+}
+
+/// What is told behind the heading of a finding with this result.
+fn why(loaded: &Loaded, result: u32) -> String {
+    let answer = judged(loaded, BUDGET);
+    assert_eq!(answer.result, result);
+    let lines = told(loaded, answer);
+    assert!(lines[0].is_empty() && lines[1].contains("It is not proved"), "{lines:?}");
+    lines[2..].join("\n")
+}
+
+#[test]
+fn too_many_threads() {
+    let outputs = ["out(0, 0)"; 33].join(" | ");
+    let said = "\nJudging the formula at the second model meets a limit at the start state:\n  \
+                The state has 33 threads, and 32 are the most.";
+    assert_eq!(why(&written(&format!("first nil second {outputs} formula true")), 11), said);
+}
+
+#[test]
+fn too_many_private_names() {
+    let text = format!(
+        "first repl new a, b, c, d, e, f, g, h, i, j, k, l.\nout(7, 7) second nil formula {}true",
+        "<out 7 _> ".repeat(11)
+    );
+    let mut said = "\nJudging the formula at the first model meets a limit after 11 steps:\n".to_string();
+    for step in 1..=11 {
+        said += &format!("  {step}. the output at line 2, column 1: it sends 7\n");
+    }
+    said += "  132 private names are made on the way to the state, and 128 are the most.";
+    assert_eq!(why(&written(&text), 11), said);
+}
+
+#[test]
+fn too_many_nodes() {
+    let text = format!("first {LARGE}\n(out(0, g) | in(1, x). out(x, g) | repl out(2, g)) second nil formula true");
+    let said = "\nJudging the formula at the first model meets a limit at the start state:\n  \
+                The bound messages and aliases of the state have 1503 nodes, and 1024 are the most.";
+    assert_eq!(why(&written(&text), 11), said);
+}
+
+/// All limits that one state is over are told, and both models.
+#[test]
+fn several_limits_at_once() {
+    let model = format!("new k. {LARGE}\n({})", ["out(0, g)"; 33].join(" | "));
+    let of = |model: &str| {
+        format!(
+            "\nJudging the formula at the {model} model meets a limit at the start state:\n  \
+             The state has 33 threads, and 32 are the most.\n  \
+             The bound messages and aliases of the state have 16566 nodes, and 1024 are the most."
+        )
+    };
+    let loaded = written(&format!("first {model} second {model} formula true"));
+    assert_eq!(why(&loaded, 11), format!("{}\n{}", of("first"), of("second")));
+}
+
+#[test]
+fn too_large_a_message_after_a_step() {
+    let text = format!("first out(7, 1). {LARGE}\nlet h = pair(g, g) in nil second nil formula <out 7 x> x = x");
+    let said = "\nJudging the formula at the first model meets a limit after one step:\n  \
+                1. the output at line 1, column 7: it sends 1\n  \
+                The term at line 3, column 9 gives a message of 511 nodes, and 255 are the most.";
+    assert_eq!(why(&written(&text), 11), said);
+    let said = said.replace("line 1, column 7", "byte 0").replace("line 3, column 9", "byte 48");
+    assert_eq!(why(&bytes(&text), 11), said);
+}
+
+#[test]
+fn too_large_a_recipe() {
+    let text = format!("first {LARGE} out(0, g)\nsecond nil\nformula <out 0 x>\n 1 = enc(x, x)");
+    let said = "\nJudging the formula at the first model meets a limit after one step:\n  \
+                1. the output at line 2, column 67: it sends ";
+    let told = why(&written(&text), 11);
+    assert!(told.starts_with(said), "{told}");
+    let last = "  The recipe at line 5, column 6 gives a message of 511 nodes, and 255 are the most.";
+    assert_eq!(told.lines().last(), Some(last));
+    assert!(told.lines().all(|line| line.len() < 250), "{told}");
+}
+
+/// Words of the formula, names, private names of two copies, an abbreviation used twice, and all shapes of formulas.
+#[test]
+fn in_the_words_of_the_finding() {
+    let text = "names c = 0, d = 1, e = 2\nSay = out(c, k). in(c, y). if y = k then out(d, y) else nil\n\
+                first repl new k. Say\nsecond new k. (Say | Say)\n\
+                formula <out c x> <out c y> (x != y and not <tau> true and ([in c x] <out d z> (z = x or z = e) or true))";
+    let said = "
+The formula is false of the first model.
+  <out c x> fails after its only step, the output at line 2, column 7: x is k#1
+  <out c y> fails after its only step, the output at line 2, column 7: y is k#2
+  side 2 of the 3 of `and` fails:
+  `not` fails, because what it denies holds:
+    <tau> holds by the output at line 2, column 7 and the input at line 2, column 18: k#3 on c (step 1 of 2)
+    true holds
+
+The formula is false of the second model.
+  <out c x> fails after each of its 2 steps:
+    1. the output at line 2, column 7 (in `Say`, used at line 4, column 16): x is k#1
+      <out c y> fails after its only step, the output at line 2, column 7 (in `Say`, used at line 4, column 22): y is k#1
+      side 1 of the 3 of `and` fails:
+      x != y fails: both are k#1
+    2. the output at line 2, column 7 (in `Say`, used at line 4, column 22): x is k#1
+      <out c y> fails after its only step, the output at line 2, column 7 (in `Say`, used at line 4, column 16): y is k#1
+      side 1 of the 3 of `and` fails:
+      x != y fails: both are k#1
+
+k#2 is a private name: the second made by `new k` of those told on the way there.";
+    assert_eq!(why(&written(text), 12), said);
+}
+
+#[test]
+fn boxes_and_alternatives() {
+    let text = "names c = 0, d = 1\nfirst out(c, d). out(d, d) | out(c, c) second nil\n\
+                formula not [out c x] (x = c or <out d _> x = c or pair(x, d) = x)";
+    let said = "
+The formula is true of the first model.
+  `not` holds, because what it denies fails:
+    [out c x] fails after the output at line 2, column 7: x is d (step 1 of 2)
+    each side of `or` fails:
+      - x = c fails: x is d
+      - <out d _> fails after its only step, the output at line 2, column 18: it sends d
+        x = c fails: x is d
+      - pair(x, d) = x fails: pair(x, d) is pair(d, d), x is d
+
+The formula is false of the second model.
+  `not` fails, because what it denies holds:
+    [out c x] holds: there is no such step";
+    assert_eq!(why(&written(text), 0), said);
+}
+
+/// Bytes have no words: variables and aliases are numbered, and places are bytes.
+#[test]
+fn bytes_without_words() {
+    let text = "first new k. in(7, _). out(7, enc(k, 8)) second nil formula <in 7 pair(9, 9)> <out 7 x> dec(x, 8) != 3";
+    let said = "
+The formula is true of the first model.
+  <in 7 pair(9, 9)> holds by the input at byte 1: it takes pair(9, 9)
+  <out 7 a0> holds by the output at byte 4: a0 is enc(v0#1, 8)
+  dec(a0, 8) != 3 holds: dec(a0, 8) is v0#1
+
+The formula is false of the second model.
+  <in 7 pair(9, 9)> fails: there is no such step
+
+k#2 is a private name: the second made by `new k` of those told on the way there.";
+    assert_eq!(why(&bytes(text), 0), said);
+}
+
+/// Whichever of the four numbers differs, nothing is explained.
+#[test]
+fn no_explanation_without_agreement() {
+    let loaded = written("first nil second out(0, 0) formula not <out 0 x> true");
+    let Answer { result, slice, place, count } = judged(&loaded, BUDGET);
+    for forged in [
+        Answer { result: result + 12, slice, place, count },
+        Answer { result, slice: slice + 1, place, count },
+        Answer { result, slice, place: place + 1, count },
+        Answer { result, slice, place, count: count + 1 },
+    ] {
+        let Explanation::Disagrees(message) = explain(Path::new("f"), &loaded, forged, BUDGET) else { panic!() };
+        let both = format!("it answers 0 0 0 5, and the library {forged}.");
+        assert!(message.starts_with("THE SECOND CHECKER DISAGREES") && message.contains(&both), "{message}");
+    }
+}
+
+#[test]
+fn the_count_that_is_needed() {
+    let loaded = written("first nil second out(0, 0) formula not <out 0 x> true");
+    let Explanation::Told(lines) = explain(Path::new("f"), &loaded, judged(&loaded, 4), 4) else { panic!() };
+    let said = "It takes 5 visits. With --budget 5 the answer is 0 0 0 5, accepted.";
+    assert_eq!(lines.last().map(String::as_str), Some(said));
+}
+
+/// Where the input is refused, the rule and its place are told.
+#[test]
+fn what_is_refused() {
+    let text = "first nil second\n out(1, 256) formula true";
+    let said = "\nIn the second model rule 5 is broken at line 2, column 9 of finding.txt: a public name is over 255.";
+    assert_eq!(why(&written(text), 5), said);
+    assert_eq!(why(&bytes(text), 5), said.replace("line 2, column 9 of finding.txt", "byte 4"));
+    assert_eq!(
+        why(&of_slices([vec![0], vec![0, 0], vec![]]), 8),
+        "\nIn the second model rule 8 is broken at byte 1: bytes are left over."
+    );
+}
