@@ -5,7 +5,8 @@
  *
  *     cc -Iinclude examples/desk.c target/staticlib/libgubzsenil.a -o desk
  *
- * examples/desk.c is such a program.
+ * or install it with `tools/install PREFIX`, and link it by pkg-config, where it is called gubzsenil. examples/desk.c is such a
+ * program.
  */
 #ifndef GUBZSENIL_H
 #define GUBZSENIL_H

@@ -55,3 +55,11 @@ fn the_readme_lists_each() {
     }
     assert_eq!(rows.len(), folders().len());
 }
+
+/// The finding in the README of the repository is an example, without its answer.
+#[test]
+fn the_first_readme_shows_one() {
+    let readme = fs::read_to_string(examples().join("../README.md")).expect("the README");
+    let shown = readme.split("```text\n").nth(1).and_then(|rest| rest.split("```").next()).expect("a finding");
+    assert_eq!(bytes(&support::finding(shown)), bytes(&finding(&examples().join("replayed_nonce"))));
+}
