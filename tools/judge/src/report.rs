@@ -109,7 +109,12 @@ fn whole(task: &Task, folder: &Path, judged: &Judged, out: &mut dyn Write) -> io
     }
     // The answer is there while the reasons are looked for.
     out.flush()?;
-    match explain(folder, loaded, *answer, task.budget) {
+    tell_why(folder, &explain(folder, loaded, *answer, task.budget), out)
+}
+
+/// Tells an explanation, or says that there is none because the second checker disagrees; then false.
+pub fn tell_why(folder: &Path, explanation: &Explanation, out: &mut dyn Write) -> io::Result<bool> {
+    match explanation {
         Explanation::Told(lines) => lines.iter().try_for_each(|line| writeln!(out, "{line}")).map(|()| true),
         Explanation::Disagrees(message) => {
             say(&format!("{}: {message}", folder.display()));

@@ -2,6 +2,7 @@
 
 mod support;
 
+use judge::report::tell_why;
 use judge::why::{explain, explanation, Explanation};
 use library::Answer;
 use notation::folder::Loaded;
@@ -177,6 +178,9 @@ fn no_explanation_without_agreement() {
         let Explanation::Disagrees(message) = explain(Path::new("f"), &loaded, forged, BUDGET) else { panic!() };
         let both = format!("it answers 0 0 0 5, and the library {forged}.");
         assert!(message.starts_with("THE SECOND CHECKER DISAGREES") && message.contains(&both), "{message}");
+        let mut out = Vec::new();
+        assert!(!tell_why(Path::new("f"), &Explanation::Disagrees(message), &mut out).expect("nothing is written"));
+        assert!(out.is_empty());
     }
 }
 

@@ -11,6 +11,9 @@ use std::path::Path;
 /// The files of the slices, in the order of the slices.
 pub const FILES: [&str; 3] = ["first.bin", "second.bin", "formula.bin"];
 
+/// A text has so many bytes at most: many times as many as slices within the rules need.
+const LONGEST_TEXT: usize = 1 << 20;
+
 /// What is to be said of a folder, a line each.
 pub type Lines = Vec<String>;
 
@@ -84,12 +87,13 @@ fn is_folder(folder: &Path) -> Result<(), Lines> {
 
 /// What `finding.txt` is read as, where there is one.
 fn written(folder: &Path) -> Result<Option<Reading>, Lines> {
-    let path = folder.join("finding.txt");
-    if fs::symlink_metadata(&path).is_err_and(|error| error.kind() == ErrorKind::NotFound) {
+    let told = |what: String| vec![format!("{}: {what}", folder.join("finding.txt").display())];
+    let Some(bytes) = contents(folder, "finding.txt", LONGEST_TEXT).map_err(|line| vec![line])? else {
         return Ok(None);
+    };
+    if bytes.len() > LONGEST_TEXT {
+        return Err(told(format!("the text is longer than {LONGEST_TEXT} bytes")));
     }
-    let told = |what: String| vec![format!("{}: {what}", path.display())];
-    let bytes = fs::read(&path).map_err(|error| told(error.to_string()))?;
     text::text(&bytes).map(|text| Some(reading(text))).map_err(told)
 }
 
@@ -101,16 +105,26 @@ fn lines(folder: &Path, what: &str, faults: &[Fault]) -> Lines {
 fn load_text(folder: &Path, mend: &str, reading: Reading) -> Result<Loaded, Lines> {
     let mut notes = lines(folder, "", &reading.faults);
     let Some(finding) = reading.finding else { return Err(notes) };
-    for (file, wanted) in FILES.iter().zip(&finding.slices) {
-        let found = slice(folder, file, wanted.bytes.len()).map_err(|line| vec![line])?;
-        let Some(what) = found.and_then(|found| difference(&wanted.bytes, &found)) else { continue };
-        let command = format!("{mend} {}", quoted(folder));
-        notes.push(format!("{}: {what}; `{command}` writes it anew", folder.join(file).display()));
-        return Err(notes);
+    let old = old(folder, &finding, mend).map_err(|line| vec![line])?;
+    if !old.is_empty() {
+        return Err([notes, old].concat());
     }
     notes.extend(lines(folder, "warning: ", &reading.warnings));
     let slices = finding.slices.clone().map(|slice| slice.bytes);
     Ok(Loaded { slices, text: Some(finding), notes })
+}
+
+/// The files of bytes that are there and differ from the text, and what mends that.
+fn old(folder: &Path, finding: &Finding, mend: &str) -> Result<Lines, String> {
+    let mut old = Vec::new();
+    for (file, wanted) in FILES.iter().zip(&finding.slices) {
+        let found = slice(folder, file, wanted.bytes.len())?;
+        if let Some(what) = found.and_then(|found| difference(&wanted.bytes, &found)) {
+            let command = format!("{mend} {}", quoted(folder));
+            old.push(format!("{}: {what}; `{command}` writes it anew", folder.join(file).display()));
+        }
+    }
+    Ok(old)
 }
 
 fn load_bytes(folder: &Path) -> Result<Loaded, Lines> {
@@ -126,15 +140,25 @@ fn load_bytes(folder: &Path) -> Result<Loaded, Lines> {
     Ok(Loaded { slices: found.map(Option::unwrap_or_default), text: None, notes })
 }
 
+/// The bytes of a slice, at most one more than it may have or is compared with; none if there is no such file.
+fn slice(folder: &Path, file: &str, compared: usize) -> Result<Option<Vec<u8>>, String> {
+    contents(folder, file, compared.max(LONGEST))
+}
+
 /// The bytes of a file, at most one more than asked for; none if there is no such file.
-fn slice(folder: &Path, file: &str, most: usize) -> Result<Option<Vec<u8>>, String> {
+fn contents(folder: &Path, file: &str, most: usize) -> Result<Option<Vec<u8>>, String> {
     let path = folder.join(file);
     if fs::symlink_metadata(&path).is_err_and(|error| error.kind() == ErrorKind::NotFound) {
         return Ok(None);
     }
     let mut bytes = Vec::new();
-    let opened = File::open(&path).and_then(|file| file.take(most.max(LONGEST) as u64 + 1).read_to_end(&mut bytes));
-    opened.map(|_| Some(bytes)).map_err(|error| format!("{}: {error}", path.display()))
+    // What is no file, a pipe say, may never end.
+    let read = match fs::metadata(&path) {
+        Ok(data) if !data.is_file() => return Err(format!("{}: it is no file", path.display())),
+        Ok(_) => File::open(&path).and_then(|file| file.take(most as u64 + 1).read_to_end(&mut bytes)),
+        Err(error) => Err(error),
+    };
+    read.map(|_| Some(bytes)).map_err(|error| format!("{}: {error}", path.display()))
 }
 
 fn difference(wanted: &[u8], found: &[u8]) -> Option<String> {

@@ -190,3 +190,12 @@ fn what_breaks_a_rule_is_loaded() {
     assert_eq!(loaded.slices[0].len(), 65);
     assert!(loaded.notes[0].contains("line 1, column 327: nested too deep: 65 process nodes"), "{:?}", loaded.notes);
 }
+
+/// A text of a length that no finding has is not read.
+#[test]
+fn long_texts() {
+    let path = folder("long", &format!("{FINDING}{}", " ".repeat(1 << 20)));
+    let output = encode(&[path.to_str().expect("a path in UTF-8")]);
+    assert_eq!(output.status.code(), Some(1));
+    assert!(said(&output).contains("finding.txt: the text is longer than 1048576 bytes"), "{}", said(&output));
+}

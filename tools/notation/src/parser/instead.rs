@@ -7,7 +7,7 @@ use crate::fault::{Cause, Place};
 use crate::lexer::{Token, RESERVED};
 use crate::tree::{Kind, Tree};
 
-/// What stands behind an opening bracket of a label that should have none.
+/// Whether a label has parentheses, which it should not have.
 #[derive(Clone, Copy)]
 pub(super) struct Bracket(bool);
 
