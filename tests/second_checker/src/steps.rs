@@ -27,6 +27,13 @@ pub struct Offer<'m> {
     names: u32,
 }
 
+impl Offer<'_> {
+    /// Whether a copy is opened for it.
+    pub fn is_in_new_copy(&self) -> bool {
+        !self.openings.is_empty()
+    }
+}
+
 /// A silent step: the openings, then the acting threads' indices in the list so opened.
 pub struct SilentStep<'m> {
     openings: Vec<Opening<'m>>,

@@ -1,7 +1,7 @@
 //! Explanations of many small findings agree with judging, and each reason can be followed step by step (document 01,
 //! "Judging and its count").
 
-use second_checker::explanation::{first_limit, reason, Cut, Reason};
+use second_checker::explanation::{first_limit, reason, Cut, Reason, Tried};
 use second_checker::judging::Judging;
 use second_checker::messages::normal_form;
 use second_checker::states::State;
@@ -144,11 +144,13 @@ fn follow(reason: &Reason, formula: &Formula, state: &State, cut: Cut) {
         }
         (Reason::NoStep { tried, of }, _) => {
             let (body, states) = after(formula, state);
-            assert_eq!(states.len(), *of);
-            let kept = if *of == 1 { 1 } else { (*of).min(cut.steps) };
-            assert!(tried.len() == kept || tried.is_empty() && *of > 1, "{} of {of}", tried.len());
-            assert!(tried.iter().all(|(_, reason)| !reason.truth()));
-            tried.iter().zip(&states).for_each(|((_, reason), state)| follow(reason, body, state, cut));
+            let all = (*of).min(1).max((*of).min(cut.steps));
+            assert!(states.len() == *of && (tried.len() == all || tried.len() == 1), "{} of {of}", tried.len());
+            assert!(tried.windows(2).all(|pair| pair[0].number < pair[1].number));
+            for Tried { number, reason, .. } in tried {
+                assert!(!reason.truth());
+                follow(reason, body, &states[number - 1], cut);
+            }
         }
         _ => panic!("{reason:?} is no reason for {formula:?}"),
     }

@@ -25,8 +25,9 @@ fn why(loaded: &Loaded, result: u32) -> String {
     let answer = judged(loaded, BUDGET);
     assert_eq!(answer.result, result);
     let lines = told(loaded, answer);
-    assert!(lines[0].is_empty() && lines[1].contains("It is not proved"), "{lines:?}");
-    lines[2..].join("\n")
+    assert!(lines[0].is_empty() && lines[1].contains("which is not proved"), "{lines:?}");
+    let labels = lines[2] == "A label in < > or [ ] stands for the formula from there on.";
+    lines[if labels { 3 } else { 2 }..].join("\n")
 }
 
 #[test]
@@ -45,7 +46,7 @@ fn too_many_private_names() {
     );
     let mut said = "\nJudging the formula at the first model meets a limit after 11 steps:\n".to_string();
     for step in 1..=11 {
-        said += &format!("  {step}. the output at line 2, column 1: it sends 7\n");
+        said += &format!("  {step}. the output at line 2, column 1, in a new copy: it sends 7\n");
     }
     said += "  132 private names are made on the way to the state, and 128 are the most.";
     assert_eq!(why(&written(&text), 11), said);
@@ -105,25 +106,26 @@ fn in_the_words_of_the_finding() {
                 formula <out c x> <out c y> (x != y and not <tau> true and ([in c x] <out d z> (z = x or z = e) or true))";
     let said = "
 The formula is false of the first model.
-  <out c x> fails after its only step, the output at line 2, column 7: x is k#1
-  <out c y> fails after its only step, the output at line 2, column 7: y is k#2
-  side 2 of the 3 of `and` fails:
+  <out c x> fails after its only step, the output at line 2, column 7, in a new copy: x is k#1
+  <out c y> fails after its only step, the output at line 2, column 7, in a new copy: y is k#2
+  side 2 of 3 of `and` fails
   `not` fails, because what it denies holds:
-    <tau> holds by the output at line 2, column 7 and the input at line 2, column 18: k#3 on c (step 1 of 2)
+    <tau> holds by step 1 of 2, the output at line 2, column 7 and the input at line 2, column 18: k#3 on c
     true holds
 
 The formula is false of the second model.
   <out c x> fails after each of its 2 steps:
     1. the output at line 2, column 7 (in `Say`, used at line 4, column 16): x is k#1
       <out c y> fails after its only step, the output at line 2, column 7 (in `Say`, used at line 4, column 22): y is k#1
-      side 1 of the 3 of `and` fails:
+      side 1 of 3 of `and` fails
       x != y fails: both are k#1
     2. the output at line 2, column 7 (in `Say`, used at line 4, column 22): x is k#1
       <out c y> fails after its only step, the output at line 2, column 7 (in `Say`, used at line 4, column 16): y is k#1
-      side 1 of the 3 of `and` fails:
+      side 1 of 3 of `and` fails
       x != y fails: both are k#1
 
-k#2 is a private name: the second made by `new k` of those told on the way there.";
+k#2 is a private name made by `new k`: the second such name told on the way there. In another branch the same mark may \
+                be another name.";
     assert_eq!(why(&written(text), 12), said);
 }
 
@@ -134,8 +136,8 @@ fn boxes_and_alternatives() {
     let said = "
 The formula is true of the first model.
   `not` holds, because what it denies fails:
-    [out c x] fails after the output at line 2, column 7: x is d (step 1 of 2)
-    each side of `or` fails:
+    [out c x] fails after step 1 of 2, the output at line 2, column 7: x is d
+    each of the 3 sides of `or` fails:
       - x = c fails: x is d
       - <out d _> fails after its only step, the output at line 2, column 18: it sends d
         x = c fails: x is d
@@ -160,7 +162,8 @@ The formula is true of the first model.
 The formula is false of the second model.
   <in 7 pair(9, 9)> fails: there is no such step
 
-k#2 is a private name: the second made by `new k` of those told on the way there.";
+k#2 is a private name made by `new k`: the second such name told on the way there. In another branch the same mark may \
+                be another name.";
     assert_eq!(why(&bytes(text), 0), said);
 }
 

@@ -12,6 +12,6 @@ mod steps;
 mod telling;
 
 pub use limits::{first_limit, Excess, Met};
-pub use reasons::{Cut, Reason};
+pub use reasons::{Cut, Reason, Tried};
 pub use steps::Step;
 pub use telling::reason;

@@ -6,10 +6,9 @@ use crate::messages::Message;
 /// How much of a reason is kept.
 #[derive(Clone, Copy, Debug)]
 pub struct Cut {
-    /// Of several steps after which a body was tried, so many are kept at most.
+    /// Of several steps after which a body was tried, so many are kept at most, and one at least: those that go furthest.
     pub steps: usize,
-    /// A level is a step formula that is false after two steps or more. Below so many of them, no step of another one
-    /// is kept.
+    /// A level is a step formula that is false after several steps. Below so many of them, one step of another is kept.
     pub levels: usize,
 }
 
@@ -27,9 +26,17 @@ pub enum Reason<'m> {
     /// A step formula that is true: a step that makes it so, the first with the shortest reason; its number, from 1,
     /// among the steps with that label, and how many these are.
     Step { step: Step<'m>, number: usize, of: usize, reason: Box<Reason<'m>> },
-    /// A step formula that is false: the first steps with its label, each with the reason why the body is false after
-    /// it, and how many there are in all. Below the cut none of them is told.
-    NoStep { tried: Vec<(Step<'m>, Reason<'m>)>, of: usize },
+    /// A step formula that is false: steps with its label, those that go furthest, each with its number, from 1, and the
+    /// reason why the body is false after it; and how many there are in all.
+    NoStep { tried: Vec<Tried<'m>>, of: usize },
+}
+
+/// A step after which a body is false, with its number, from 1, among the steps with its label.
+#[derive(Clone, Debug)]
+pub struct Tried<'m> {
+    pub number: usize,
+    pub step: Step<'m>,
+    pub reason: Reason<'m>,
 }
 
 impl<'m> Reason<'m> {
@@ -49,25 +56,19 @@ impl<'m> Reason<'m> {
             Reason::Equal { .. } => 1,
             Reason::Not(reason) | Reason::Side { reason, .. } | Reason::Step { reason, .. } => 1 + reason.length(),
             Reason::Both(left, right) => 1 + left.length() + right.length(),
-            Reason::NoStep { tried, .. } => 1 + tried.iter().map(|(_, reason)| reason.length()).sum::<usize>(),
+            Reason::NoStep { tried, .. } => 1 + tried.iter().map(|tried| tried.reason.length()).sum::<usize>(),
         }
     }
 
-    /// Whether no step formula in it has steps of which none is told. Others may have more steps than are told.
-    pub fn is_whole(&self) -> bool {
+    /// How many steps it goes, one after the other.
+    pub fn reach(&self) -> usize {
         match self {
-            Reason::Equal { .. } => true,
-            Reason::Not(reason) | Reason::Side { reason, .. } | Reason::Step { reason, .. } => reason.is_whole(),
-            Reason::Both(left, right) => left.is_whole() && right.is_whole(),
-            Reason::NoStep { tried, of } => {
-                tried.is_empty() == (*of == 0) && tried.iter().all(|(_, reason)| reason.is_whole())
-            }
+            Reason::Equal { .. } => 0,
+            Reason::Not(reason) | Reason::Side { reason, .. } => reason.reach(),
+            Reason::Both(left, right) => left.reach().max(right.reach()),
+            Reason::Step { reason, .. } => 1 + reason.reach(),
+            Reason::NoStep { tried, .. } => tried.iter().map(|tried| 1 + tried.reason.reach()).max().unwrap_or(0),
         }
-    }
-
-    /// Whether it is told rather than another: the shorter one is, but none that is cut where the other is whole.
-    pub(super) fn is_before(&self, other: &Reason) -> bool {
-        (!self.is_whole(), self.length()) < (!other.is_whole(), other.length())
     }
 
     /// The reason for a conjunction, made of those for its sides.
@@ -75,7 +76,7 @@ impl<'m> Reason<'m> {
         match (left.truth(), right.truth()) {
             (true, true) => Reason::Both(Box::new(left), Box::new(right)),
             (true, false) => Reason::Side { right: true, reason: Box::new(right) },
-            (false, false) if right.is_before(&left) => Reason::Side { right: true, reason: Box::new(right) },
+            (false, false) if right.length() < left.length() => Reason::Side { right: true, reason: Box::new(right) },
             (false, _) => Reason::Side { right: false, reason: Box::new(left) },
         }
     }

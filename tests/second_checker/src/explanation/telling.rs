@@ -1,7 +1,7 @@
 //! Finding the reason: a judgement that keeps what it sees (document 01, "Judging and its count").
 
 use super::possible::{inputs, outputs, silents, Possible};
-use super::{Cut, Reason};
+use super::{Cut, Reason, Tried};
 use crate::judging::Judging;
 use crate::messages::{normal_form, TooLarge};
 use crate::states::State;
@@ -55,15 +55,15 @@ impl Telling {
             let (told, reason) = (step.told(state), self.reached(body, step.after(state), levels)?);
             return Some(match reason.truth() {
                 true => Reason::Step { step: told, number: 1, of: 1, reason: Box::new(reason) },
-                false => Reason::NoStep { tried: vec![(told, reason)], of: 1 },
+                false => Reason::NoStep { tried: vec![Tried { number: 1, step: told, reason }], of: 1 },
             });
         }
-        // Where there are several, it is found first after which of them the body is true, so that no more is told than
-        // is kept.
+        // Where there are several, it is found first after which of them the body is true: only these are told then, or
+        // else all of them.
         let truths = truths(steps, body, state)?;
         match truths.contains(&true) {
             true => self.shortest(steps, &truths, body, state, levels),
-            false => self.first(steps, body, state, levels),
+            false => self.furthest(steps, body, state, levels),
         }
     }
 
@@ -79,7 +79,7 @@ impl Telling {
         let mut best: Option<(usize, Reason)> = None;
         for (index, step) in steps.iter().enumerate().filter(|(index, _)| truths[*index]) {
             let reason = self.reached(body, step.after(state), levels)?;
-            if best.as_ref().is_none_or(|(_, best)| reason.is_before(best)) {
+            if best.as_ref().is_none_or(|(_, best)| reason.length() < best.length()) {
                 best = Some((index, reason));
             }
         }
@@ -88,21 +88,26 @@ impl Telling {
         Some(Reason::Step { step, number: index + 1, of: steps.len(), reason })
     }
 
-    /// The first of several steps, or of none, after which a step formula is false.
-    fn first<'m>(
+    /// Of several steps, or of none, after which a step formula is false, those that go furthest, in their order.
+    fn furthest<'m>(
         &self,
         steps: &[Possible<'m>],
         body: &Formula,
         state: &State<'m>,
         levels: usize,
     ) -> Option<Reason<'m>> {
-        let kept = if levels == 0 { 0 } else { self.kept };
-        let told = |step: &Possible<'m>| {
+        let kept = if levels == 0 { 1 } else { self.kept.max(1) };
+        let mut tried: Vec<Tried> = Vec::new();
+        for (index, step) in steps.iter().enumerate() {
             let reason = self.reached(body, step.after(state), levels.saturating_sub(1))?;
-            Some((step.told(state), reason))
-        };
-        let tried: Option<Vec<_>> = steps.iter().take(kept).map(told).collect();
-        Some(Reason::NoStep { tried: tried?, of: steps.len() })
+            tried.push(Tried { number: index + 1, step: step.told(state), reason });
+            if tried.len() > kept {
+                // The last of those that go least far is left out.
+                let least = tried.iter().rev().min_by_key(|tried| tried.reason.reach()).map(|tried| tried.number);
+                tried.retain(|tried| Some(tried.number) != least);
+            }
+        }
+        Some(Reason::NoStep { tried, of: steps.len() })
     }
 }
 

@@ -27,14 +27,18 @@ use words::Words;
 /// How long the second checker may take.
 const PATIENCE: Duration = Duration::from_secs(60);
 
-/// Of several steps after which a formula fails, three are told; below two such formulas, none of a third.
-const CUT: Cut = Cut { steps: 3, levels: 2 };
+/// Where a formula fails after several steps, the three that go furthest are told; below that, one.
+const CUT: Cut = Cut { steps: 3, levels: 1 };
 
 const HEADING: &str =
-    "Why? The second checker tells it. It is not proved; here it agrees with the proved library on all \
-                       four numbers.";
+    "Why? The reasons come from a second checker, which is not proved; its four numbers are those of the \
+                       proved library.";
 
-const LEGEND: &[&str] = &["", "k#2 is a private name: the second made by `new k` of those told on the way there."];
+const LABELS: &str = "A label in < > or [ ] stands for the formula from there on.";
+
+const PRIVATE: &str =
+    "k#2 is a private name made by `new k`: the second such name told on the way there. In another branch \
+                       the same mark may be another name.";
 
 /// What the second checker makes of a finding.
 #[derive(Clone, Debug, PartialEq, Eq)]
@@ -77,10 +81,11 @@ pub fn explanation(slices: &[Vec<u8>; 3], text: Option<Finding>, answer: Answer,
         return Explanation::Disagrees(message);
     }
     let reasons = reasons(slices, text, answer);
-    let has_private = reasons.iter().any(|line| line.contains('#'));
-    let legend = if has_private { LEGEND } else { &[] };
-    let told = [String::new(), HEADING.to_string()].into_iter().chain(reasons);
-    Explanation::Told(told.chain(legend.iter().map(|line| line.to_string())).collect())
+    let labels = [LABELS].into_iter().filter(|_| reasons.iter().any(|line| line.contains(['<', '['])));
+    let private = ["", PRIVATE].into_iter().filter(|_| reasons.iter().any(|line| line.contains('#')));
+    let before = ["", HEADING].into_iter().chain(labels).map(String::from);
+    let after = private.map(String::from);
+    Explanation::Told(before.chain(reasons.iter().cloned()).chain(after).collect())
 }
 
 /// Both models, by what they are called.

@@ -4,7 +4,11 @@ use super::shape::{self, shape, under, Shape};
 use super::steps;
 use super::words::Words;
 use notation::tree::{Kind, Tree};
-use second_checker::explanation::{Reason, Step};
+use second_checker::explanation::{Reason, Step, Tried};
+use second_checker::messages::Message;
+
+/// A message longer than this is told once.
+const LONG: usize = 40;
 
 /// The lines that tell a reason.
 pub struct Telling<'f> {
@@ -67,14 +71,25 @@ impl<'f> Telling<'f> {
         if left_text == right_text {
             return self.line(&format!("{left_text} {sign} {right_text} {}", verb(holds)));
         }
-        let [left_message, right_message] = [left, right].map(|message| self.words.message(message));
-        let is = |text: &str, message: &str| (text != message).then(|| format!("{text} is {message}"));
-        let told: Vec<String> = match left == right {
-            true => vec![format!("both are {left_message}")],
-            false => is(&left_text, &left_message).into_iter().chain(is(&right_text, &right_message)).collect(),
+        let told = match left == right {
+            true => vec![format!("both are {}", self.words.message(left))],
+            false => {
+                let sides = [(&formula.parts[0], &left_text, left), (&formula.parts[1], &right_text, right)];
+                sides.into_iter().filter_map(|(recipe, text, message)| self.recipe_is(recipe, text, message)).collect()
+            }
         };
         let told = if told.is_empty() { String::new() } else { format!(": {}", told.join(", ")) };
         self.line(&format!("{left_text} {sign} {right_text} {}{told}", verb(holds)));
+    }
+
+    /// What a recipe gives, unless it says so itself. Of an alias that was told when it was sent not much is said again.
+    fn recipe_is(&mut self, recipe: &Tree, text: &str, message: &Message) -> Option<String> {
+        let told = self.words.message(message);
+        match recipe.kind {
+            _ if text == told => None,
+            Kind::Variable if told.len() > LONG => Some(format!("{text} is as told above")),
+            _ => Some(format!("{text} is {told}")),
+        }
     }
 
     fn sides(&mut self, sides: [&Tree; 2], or: bool, reason: &Reason) {
@@ -85,12 +100,12 @@ impl<'f> Telling<'f> {
             let which = match (all, number) {
                 (2, 1) => "the left side".to_string(),
                 (2, _) => "the right side".to_string(),
-                _ => format!("side {number} of the {all}"),
+                _ => format!("side {number} of {all}"),
             };
-            self.line(&format!("{which} of `{word}` {}:", verb(or)));
+            self.line(&format!("{which} of `{word}` {}", verb(or)));
             return self.tell(tree, reason);
         }
-        self.line(&format!("each side of `{word}` {}:", verb(!or)));
+        self.line(&format!("each of the {all} sides of `{word}` {}:", verb(!or)));
         for (_, (tree, reason)) in told {
             let first = self.lines.len();
             self.inside(|telling| telling.inside(|telling| telling.tell(tree, reason)));
@@ -107,43 +122,45 @@ impl<'f> Telling<'f> {
     }
 
     fn modal(&mut self, step: &Tree, boxed: bool, reason: &Reason) {
-        let label = self.label(step, boxed);
+        let (label, verb) = (self.label(step, boxed), verb(reason.truth() != boxed));
         match reason {
             Reason::Step { step: taken, number, of, reason } => {
-                let place = self.told(step, taken);
-                let (by, which) = (if boxed { "after" } else { "by" }, which(*number, *of));
-                self.line(&format!("{label} {} {by} {place}{which}", verb(!boxed)));
+                let (by, which, place) =
+                    (if boxed { "after" } else { "by" }, which(*number, *of), self.told(step, taken));
+                self.line(&format!("{label} {verb} {by} {which}{place}"));
                 self.body(step, boxed, reason);
             }
-            Reason::NoStep { tried, of } => self.each(step, boxed, tried, *of),
+            Reason::NoStep { tried, of } => match &tried[..] {
+                [] => self.line(&format!("{label} {verb}: there is no such step")),
+                [one] => {
+                    let place = self.told(step, &one.step);
+                    let after = match of {
+                        1 => "its only step, ".to_string(),
+                        _ => format!("each of its {of} steps; furthest goes step {}, ", one.number),
+                    };
+                    self.line(&format!("{label} {verb} after {after}{place}"));
+                    self.body(step, boxed, &one.reason);
+                }
+                _ => {
+                    self.line(&format!("{label} {verb} after each of its {of} steps:"));
+                    self.inside(|telling| telling.each(step, boxed, tried, *of, verb));
+                }
+            },
             _ => {}
         }
     }
 
-    /// A step formula that fails after all steps, or a box that holds after all of them.
-    fn each(&mut self, step: &Tree, boxed: bool, tried: &[(Step, Reason)], of: usize) {
-        let (label, verb) = (self.label(step, boxed), verb(boxed));
-        match (tried, of) {
-            (_, 0) => self.line(&format!("{label} {verb}: there is no such step")),
-            ([(taken, reason)], 1) => {
-                let place = self.told(step, taken);
-                self.line(&format!("{label} {verb} after its only step, {place}"));
-                self.body(step, boxed, reason);
-            }
-            ([], _) => self.line(&format!("{label} {verb} after each of its {of} steps, which are not told")),
-            _ => {
-                self.line(&format!("{label} {verb} after each of its {of} steps:"));
-                for (number, (taken, reason)) in tried.iter().enumerate() {
-                    self.inside(|telling| {
-                        let place = telling.told(step, taken);
-                        telling.line(&format!("{}. {place}", number + 1));
-                        telling.inside(|telling| telling.body(step, boxed, reason));
-                    });
-                }
-                if of > tried.len() {
-                    self.inside(|telling| telling.line(&format!("and so after {} more", of - tried.len())));
-                }
-            }
+    /// The steps after all of which a step formula fails, or a box holds.
+    fn each(&mut self, step: &Tree, boxed: bool, tried: &[Tried], of: usize, verb: &str) {
+        for Tried { number, step: taken, reason } in tried {
+            let path = self.words.path();
+            let place = self.told(step, taken);
+            self.line(&format!("{number}. {place}"));
+            self.inside(|telling| telling.body(step, boxed, reason));
+            self.words.leave(path);
+        }
+        if of > tried.len() {
+            self.line(&format!("it also {verb} after {} more, not told", of - tried.len()));
         }
     }
 
@@ -177,9 +194,10 @@ impl<'f> Telling<'f> {
     }
 }
 
+/// Which step it is, where there are several.
 fn which(number: usize, of: usize) -> String {
     if of > 1 {
-        format!(" (step {number} of {of})")
+        format!("step {number} of {of}, ")
     } else {
         String::new()
     }

@@ -34,7 +34,7 @@ impl<'f> Words<'f> {
         let most = if message.size() > WHOLE { DEEPEST } else { WHOLE };
         let text = self.below(message, most);
         if message.size() > WHOLE {
-            format!("{text}, {} nodes in all", message.size())
+            format!("{text} ({} nodes; .. is a part left out)", message.size())
         } else {
             text
         }
