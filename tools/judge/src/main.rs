@@ -2,10 +2,12 @@
 
 use judge::arguments::{parse, Call};
 use judge::help::{HELP, VERSION};
-use judge::notes::say;
+use judge::notes::{say, say_wrong};
 use judge::report;
+use notation::folder::quoted;
 use std::ffi::OsString;
 use std::io::{self, ErrorKind, Write};
+use std::path::Path;
 use std::process::ExitCode;
 
 /// The status where there is no answer, or the call is wrong.
@@ -16,7 +18,7 @@ fn main() -> ExitCode {
     let status = match parse(&words) {
         Ok(call) => answer(&call).unwrap_or_else(|error| unwritten(&error)),
         Err(message) => {
-            say(&message);
+            say_wrong(&message);
             NO_ANSWER
         }
     };
@@ -35,7 +37,7 @@ fn answer(call: &Call) -> io::Result<u8> {
 
 /// The command that writes files of bytes anew, as the one who calls this program can call it.
 fn mend() -> String {
-    std::env::var("GUBZSENIL_ENCODE").unwrap_or("encode".to_string())
+    std::env::var_os("GUBZSENIL_ENCODE").map_or("encode".to_string(), |path| quoted(Path::new(&path)))
 }
 
 /// Standard output cannot be written to. Whoever closed a pipe knows that.

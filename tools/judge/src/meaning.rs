@@ -44,10 +44,10 @@ fn hint(answer: Answer) -> Option<String> {
     match (answer.result, answer.count) {
         (10, u32::MAX) => Some("There is no larger budget.".to_string()),
         (10, _) => Some(format!(
-            "A larger budget, --budget N with N up to {}, may settle it; judge --why looks for the count that it takes.",
+            "A larger budget, --budget N with N up to {}, may settle it; judge --why FOLDER looks for the count that it takes.",
             u32::MAX
         )),
-        (11..=13, _) => Some("judge --why says why.".to_string()),
+        (11..=13, _) => Some("judge --why FOLDER says why.".to_string()),
         _ => None,
     }
 }

@@ -7,6 +7,7 @@ use crate::meaning::{sentence, words};
 use crate::notes::say;
 use crate::summary::{Outcome, Summary};
 use crate::why::{explain, Explanation};
+use notation::text::shown;
 use std::io::{self, Write};
 use std::path::Path;
 
@@ -30,7 +31,7 @@ pub fn run(task: &Task, mend: &str, out: &mut dyn Write) -> io::Result<Summary> 
     let mut summary = Summary::default();
     for folder in &task.folders {
         let judged = judge(folder, task.budget, mend);
-        beside(&judged);
+        beside(&judged, task.form);
         let judged = judged.ok();
         let agreed = tell(task, shape, folder, judged.as_ref(), out)?;
         let misstated = judged.as_ref().is_some_and(|judged| is_misstated(folder, judged, task.budget));
@@ -52,6 +53,11 @@ fn shape(task: &Task) -> Shape {
     }
 }
 
+/// The name of a folder, in one line.
+fn name(folder: &Path) -> String {
+    shown(&folder.display().to_string())
+}
+
 fn outcome(judged: Option<&Judged>) -> Outcome {
     match judged.map(|judged| judged.answer.result) {
         Some(0) => Outcome::Accepted,
@@ -60,10 +66,13 @@ fn outcome(judged: Option<&Judged>) -> Outcome {
     }
 }
 
-/// What is said before the answer: notes, or why there is none.
-fn beside(judged: &Result<Judged, Vec<String>>) {
+/// What is said before the answer: notes and warnings, or why there is none. Who asks for numbers alone is not warned.
+fn beside(judged: &Result<Judged, Vec<String>>, form: Form) {
     match judged {
-        Ok(judged) => judged.loaded.notes.iter().for_each(|note| say(note)),
+        Ok(judged) => {
+            let warnings = judged.loaded.warnings.iter().filter(|_| form != Form::Quiet);
+            judged.loaded.notes.iter().chain(warnings).for_each(|note| say(note));
+        }
         Err(reasons) => reasons.iter().for_each(|reason| say(reason)),
     }
 }
@@ -91,10 +100,8 @@ fn tell(task: &Task, shape: Shape, folder: &Path, judged: Option<&Judged>, out: 
         (Shape::Numbers, None) => writeln!(out, "- - - -")?,
         (Shape::Whole, Some(judged)) => return whole(task, folder, judged, out),
         (Shape::Whole, None) => {}
-        (Shape::Line, Some(judged)) => {
-            writeln!(out, "{}: {}, {}", folder.display(), judged.answer, words(judged.answer))?
-        }
-        (Shape::Line, None) => writeln!(out, "{}: no answer", folder.display())?,
+        (Shape::Line, Some(judged)) => writeln!(out, "{}: {}, {}", name(folder), judged.answer, words(judged.answer))?,
+        (Shape::Line, None) => writeln!(out, "{}: no answer", name(folder))?,
         (Shape::Chapter, judged) => return chapter(task, folder, judged, out),
     }
     Ok(true)
@@ -124,7 +131,7 @@ pub fn tell_why(folder: &Path, explanation: &Explanation, out: &mut dyn Write) -
 }
 
 fn chapter(task: &Task, folder: &Path, judged: Option<&Judged>, out: &mut dyn Write) -> io::Result<bool> {
-    writeln!(out, "{}:", folder.display())?;
+    writeln!(out, "{}:", name(folder))?;
     let agreed = match judged {
         Some(judged) => whole(task, folder, judged, out)?,
         None => writeln!(out, "no answer").map(|()| true)?,

@@ -40,10 +40,12 @@ fn a_refusal_has_its_place() {
 #[test]
 fn hints() {
     let over = sentence(answer(10, 0, 0, 4), &nothing(), true);
-    assert!(over.contains("--budget N with N up to 4294967295") && over.contains("judge --why looks for the count"));
+    assert!(
+        over.contains("--budget N with N up to 4294967295") && over.contains("judge --why FOLDER looks for the count")
+    );
     assert!(sentence(answer(10, 0, 0, u32::MAX), &nothing(), true).ends_with("There is no larger budget."));
     for result in 11..=13 {
-        assert!(sentence(answer(result, 0, 0, 4), &nothing(), true).ends_with(" judge --why says why."));
+        assert!(sentence(answer(result, 0, 0, 4), &nothing(), true).ends_with(" judge --why FOLDER says why."));
     }
     for result in RESULTS {
         assert!(!sentence(answer(result, 0, 0, 4), &nothing(), false).contains("--"));

@@ -124,7 +124,7 @@ The formula is false of the second model.
       side 1 of 3 of `and` fails
       x != y fails: both are k#1
 
-k#2 is a private name made by `new k`: the second such name told on the way there. In another branch the same mark may \
+k#1 is a private name made by `new k`: the first such name told on the way there. In another branch the same mark may \
                 be another name.";
     assert_eq!(why(&written(text), 12), said);
 }
@@ -162,8 +162,8 @@ The formula is true of the first model.
 The formula is false of the second model.
   <in 7 pair(9, 9)> fails: there is no such step
 
-k#2 is a private name made by `new k`: the second such name told on the way there. In another branch the same mark may \
-                be another name.";
+v0#1 is a private name made by `new v0`: the first such name told on the way there. In another branch the same mark \
+                may be another name.";
     assert_eq!(why(&bytes(text), 0), said);
 }
 
@@ -191,7 +191,7 @@ fn no_explanation_without_agreement() {
 fn the_count_that_is_needed() {
     let loaded = written("first nil second out(0, 0) formula not <out 0 x> true");
     let Explanation::Told(lines) = explain(Path::new("f"), &loaded, judged(&loaded, 4), 4) else { panic!() };
-    let said = "It takes 5 visits. With --budget 5 the answer is 0 0 0 5, accepted.";
+    let said = "By the library's count it takes 5 visits. With --budget 5 the answer is 0 0 0 5, accepted.";
     assert_eq!(lines.last().map(String::as_str), Some(said));
 }
 
@@ -206,4 +206,76 @@ fn what_is_refused() {
         why(&of_slices([vec![0], vec![0, 0], vec![]]), 8),
         "\nIn the second model rule 8 is broken at byte 1: bytes are left over."
     );
+}
+
+/// Of many steps those are told that go furthest: the first three would not say why the fourth fails.
+#[test]
+fn the_nearest_miss_is_told() {
+    let text =
+        "first out(0, 1) | out(0, 2) | out(0, 3) |\nout(0, 4). out(7, 5) second nil formula <out 0 x> <out 7 y> y = 6";
+    let said = "
+The formula is false of the first model.
+  <out 0 x> fails after each of its 4 steps:
+    1. the output at line 1, column 7: x is 1
+      <out 7 y> fails: there is no such step
+    2. the output at line 1, column 19: x is 2
+      <out 7 y> fails: there is no such step
+    4. the output at line 2, column 1: x is 4
+      <out 7 y> fails after its only step, the output at line 2, column 12: y is 5
+      y = 6 fails: y is 5
+    it also fails after 1 more, not told
+
+The formula is false of the second model.
+  <out 0 x> fails: there is no such step";
+    assert_eq!(why(&written(text), 12), said);
+}
+
+/// However many steps there are, what is told ends with an equation, or with a step that there is not.
+#[test]
+fn what_is_told_comes_to_an_end() {
+    let outputs: Vec<String> = (1..=20).map(|name| format!("out(0, {name})")).collect();
+    let text = format!("first {} second nil formula <out 0 x> <out 0 y> <out 0 z> x = y", outputs.join(" | "));
+    let told = why(&written(&text), 12);
+    let ends = told.lines().filter(|line| line.contains("x = y fails: x is ")).count();
+    assert_eq!((ends, told.lines().count()), (3, 19), "{told}");
+    let below = "<out 0 y> fails after each of its 19 steps; told is step 1, the output at line 1, column 7: y is 1";
+    assert!(told.contains(below), "{told}");
+}
+
+/// A formula of many parts is cut too.
+#[test]
+fn so_many_lines_are_told() {
+    let part = format!("{}true", "<tau> ".repeat(8));
+    let text = format!("first repl out(0, 0) | repl in(0, _) second nil formula {}", [part.as_str(); 40].join(" and "));
+    let told = why(&written(&text), 0);
+    let first = told.split("\n\n").next().expect("the first model");
+    assert_eq!(first.lines().count(), 153, "{first}");
+    assert!(first.ends_with("\n  211 lines more are not told."), "{first}");
+}
+
+/// Of abbreviations in abbreviations as many uses are told as are needed to tell one place from the others.
+#[test]
+fn uses_of_abbreviations() {
+    let text = "A = out(0, 1)\nB = A\nfirst B | B second A formula <out 0 x> x = 2";
+    let told = why(&written(text), 12);
+    for part in [
+        "1. the output at line 1, column 5 (in `A`, used at line 2, column 5, in `B`, used at line 3, column 7): x is 1",
+        "2. the output at line 1, column 5 (in `A`, used at line 2, column 5, in `B`, used at line 3, column 11): x is 1",
+        "fails after its only step, the output at line 1, column 5: x is 1",
+    ] {
+        assert!(told.contains(part), "{told}");
+    }
+}
+
+#[test]
+fn not_true_is_told_so() {
+    let said = "
+The formula is false of the first model.
+  `not` fails, because what it denies holds:
+    true holds
+
+The formula is false of the second model.
+  `not` fails, because what it denies holds:
+    true holds";
+    assert_eq!(why(&written("first nil second nil formula not true"), 12), said);
 }

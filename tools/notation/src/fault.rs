@@ -50,13 +50,22 @@ impl fmt::Display for Place {
 impl fmt::Display for Fault {
     fn fmt(&self, f: &mut fmt::Formatter<'_>) -> fmt::Result {
         write!(f, "{}: {}", self.place, self.message)?;
-        let mut within = &self.within;
-        while let Some(used) = within {
-            write!(f, " (in `{}`, used at {})", used.word, used.place)?;
-            within = &used.outer;
+        for (index, used) in uses(&self.within).enumerate() {
+            match index {
+                0..MOST_USES => write!(f, " (in `{}`, used at {})", used.word, used.place)?,
+                _ => return write!(f, " .."),
+            }
         }
         Ok(())
     }
+}
+
+/// Of abbreviations in abbreviations, so many are told.
+const MOST_USES: usize = 3;
+
+/// The uses of abbreviations around a place, the innermost first.
+pub fn uses(within: &Within) -> impl Iterator<Item = &Use> {
+    std::iter::successors(within.as_deref(), |used| used.outer.as_deref())
 }
 
 /// The faults in the order of their places, of those at one place the first.

@@ -3,6 +3,7 @@
 use crate::decoding::{self, Refusal};
 use crate::fault::Fault;
 use crate::rules::LONGEST;
+use crate::text::is_unseen;
 use crate::{print, reading, text, Finding, Reading};
 use std::fs::{self, File};
 use std::io::{ErrorKind, Read};
@@ -23,8 +24,10 @@ pub struct Loaded {
     pub slices: [Vec<u8>; 3],
     /// Where the finding is written in words.
     pub text: Option<Finding>,
-    /// What is to be said beside the answer: rules that are broken, warnings, files that are missing.
+    /// What is to be said beside the answer: rules that are broken in several places, files that are missing.
     pub notes: Lines,
+    /// What is doubtful in the text.
+    pub warnings: Lines,
 }
 
 /// Loads what is to be judged, or says why nothing is. `mend` is the command that writes the files of bytes anew.
@@ -79,7 +82,8 @@ fn is_folder(folder: &Path) -> Result<(), Lines> {
         Ok(data) if data.is_dir() => Ok(()),
         Ok(_) => Err(vec![format!("{} is no folder", folder.display())]),
         Err(error) if error.kind() == ErrorKind::NotFound => {
-            Err(vec![format!("there is no folder {}", folder.display())])
+            let name = if folder.as_os_str().is_empty() { "''".to_string() } else { folder.display().to_string() };
+            Err(vec![format!("there is no folder {name}")])
         }
         Err(error) => Err(vec![format!("{}: {error}", folder.display())]),
     }
@@ -103,25 +107,27 @@ fn lines(folder: &Path, what: &str, faults: &[Fault]) -> Lines {
 }
 
 fn load_text(folder: &Path, mend: &str, reading: Reading) -> Result<Loaded, Lines> {
-    let mut notes = lines(folder, "", &reading.faults);
-    let Some(finding) = reading.finding else { return Err(notes) };
-    let old = old(folder, &finding, mend).map_err(|line| vec![line])?;
+    let faults = lines(folder, "", &reading.faults);
+    let Some(finding) = reading.finding else { return Err(faults) };
+    let old = old(folder, &finding).map_err(|line| vec![line])?;
     if !old.is_empty() {
-        return Err([notes, old].concat());
+        let first = if faults.is_empty() { "" } else { "mend the text first; then " };
+        let mended = format!("{first}`{mend} {}` writes the files of bytes anew", quoted(folder));
+        return Err([faults, old, vec![mended]].concat());
     }
-    notes.extend(lines(folder, "warning: ", &reading.warnings));
+    // Of several places where a rule is broken the answer tells the first.
+    let notes = if faults.len() > 1 { faults } else { Vec::new() };
     let slices = finding.slices.clone().map(|slice| slice.bytes);
-    Ok(Loaded { slices, text: Some(finding), notes })
+    Ok(Loaded { slices, text: Some(finding), notes, warnings: lines(folder, "warning: ", &reading.warnings) })
 }
 
-/// The files of bytes that are there and differ from the text, and what mends that.
-fn old(folder: &Path, finding: &Finding, mend: &str) -> Result<Lines, String> {
+/// The files of bytes that are there and differ from the text.
+fn old(folder: &Path, finding: &Finding) -> Result<Lines, String> {
     let mut old = Vec::new();
     for (file, wanted) in FILES.iter().zip(&finding.slices) {
         let found = slice(folder, file, wanted.bytes.len())?;
         if let Some(what) = found.and_then(|found| difference(&wanted.bytes, &found)) {
-            let command = format!("{mend} {}", quoted(folder));
-            old.push(format!("{}: {what}; `{command}` writes it anew", folder.join(file).display()));
+            old.push(format!("{}: {what}", folder.join(file).display()));
         }
     }
     Ok(old)
@@ -137,7 +143,7 @@ fn load_bytes(folder: &Path) -> Result<Loaded, Lines> {
     let missing = FILES.iter().zip(&found).filter(|(_, bytes)| bytes.is_none());
     let notes = missing.map(|(file, _)| format!("{} is missing, and counts as empty", folder.join(file).display()));
     let notes = notes.collect();
-    Ok(Loaded { slices: found.map(Option::unwrap_or_default), text: None, notes })
+    Ok(Loaded { slices: found.map(Option::unwrap_or_default), text: None, notes, warnings: Vec::new() })
 }
 
 /// The bytes of a slice, at most one more than it may have or is compared with; none if there is no such file.
@@ -171,13 +177,17 @@ fn difference(wanted: &[u8], found: &[u8]) -> Option<String> {
     ))
 }
 
-/// A path as a word of a command.
-fn quoted(path: &Path) -> String {
-    let text = path.display().to_string();
-    let plain = |c: char| c.is_ascii_alphanumeric() || "/._-+,=@%".contains(c);
-    match text.chars().all(plain) && !text.starts_with('-') {
-        true => text,
-        false if text.starts_with('-') => format!("-- '{}'", text.replace('\'', "'\\''")),
-        false => format!("'{}'", text.replace('\'', "'\\''")),
+/// A path as a word of a command in a shell; `--` before one that could be taken for an option.
+pub fn quoted(path: &Path) -> String {
+    let bytes = path.as_os_str().as_encoded_bytes();
+    let plain = |byte: &u8| byte.is_ascii_alphanumeric() || b"/._-+,=@%".contains(byte);
+    let word = match std::str::from_utf8(bytes) {
+        Ok(text) if !text.is_empty() && bytes.iter().all(plain) => text.to_string(),
+        Ok(text) if !text.chars().any(is_unseen) => format!("'{}'", text.replace('\'', "'\\''")),
+        _ => format!("$'{}'", bytes.escape_ascii().to_string().replace("\\\"", "\"")),
+    };
+    match bytes.first() {
+        Some(b'-') => format!("-- {word}"),
+        _ => word,
     }
 }

@@ -2,6 +2,7 @@
 //! the parser can say what to write instead.
 
 use crate::fault::Place;
+use crate::text::{end, is_unseen, lines};
 use std::fmt;
 
 #[derive(Clone, Debug, PartialEq, Eq)]
@@ -27,13 +28,16 @@ pub const RESERVED: [&str; 25] = [
     "and", "or", "tau", "true", "names", "first", "second", "formula", "answer",
 ];
 
+/// Of a token so many characters are told.
+const TOLD: usize = 40;
+
 /// What other notations have in more than one character; these are looked for first.
 const FOREIGN: [&str; 11] = ["(*", "/*", "//", "&&", "||", "/\\", "\\/", "==", "=>", "->", "<>"];
 
 impl fmt::Display for Token {
     fn fmt(&self, f: &mut fmt::Formatter<'_>) -> fmt::Result {
         match self {
-            Token::Word(text) | Token::Foreign(text) => write!(f, "`{text}`"),
+            Token::Word(text) | Token::Foreign(text) => write!(f, "{}", told(text)),
             Token::Number(number) => write!(f, "`{number}`"),
             Token::Symbol(symbol) => write!(f, "`{symbol}`"),
             Token::End => write!(f, "the end of the text"),
@@ -41,16 +45,24 @@ impl fmt::Display for Token {
     }
 }
 
+/// A token as it stands; a character that is not seen, or may be taken for another, by its number.
+fn told(text: &str) -> String {
+    match text.chars().next() {
+        Some(c) if is_unseen(c) => format!("the character U+{:04X}", u32::from(c)),
+        Some(c) if !c.is_ascii() => format!("`{c}` (U+{:04X})", u32::from(c)),
+        _ if text.chars().count() > TOLD => format!("`{}..`", text.chars().take(TOLD).collect::<String>()),
+        _ => format!("`{text}`"),
+    }
+}
+
 /// The tokens of a text, `Token::End` last.
 pub fn lexemes(text: &str) -> Vec<Lexeme> {
     let mut lexemes = Vec::new();
-    let mut end = Place { line: 1, column: 1 };
-    for (index, line) in text.lines().enumerate() {
+    for (index, line) in lines(text).into_iter().enumerate() {
         let code = line.split('#').next().unwrap_or("");
         of_line(code, index + 1, &mut lexemes);
-        end = Place { line: index + 1, column: line.chars().count() + 1 };
     }
-    lexemes.push(Lexeme { token: Token::End, place: end });
+    lexemes.push(Lexeme { token: Token::End, place: end(text.trim_end()) });
     lexemes
 }
 

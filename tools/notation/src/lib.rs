@@ -1,5 +1,6 @@
 //! Findings in the readable notation of `docs/NOTATION.md`, and their bytes.
 
+pub mod arguments;
 pub mod decoding;
 pub mod fault;
 pub mod folder;

@@ -1,68 +1,57 @@
 //! Turns `finding.txt` into the three slices that are judged, compares them, or prints slices as notation.
 
+use notation::arguments::{parse, Call, Task};
 use notation::folder::{self, Lines};
+use notation::text::shown;
 use notation::writing;
-use std::ffi::OsString;
 use std::io::Write;
 use std::path::Path;
 use std::process::ExitCode;
 
 const HELP: &str = include_str!("help.txt");
+const VERSION: &str = concat!("encode ", env!("CARGO_PKG_VERSION"), "\n");
 
-/// What is done with one folder; true where nothing is amiss.
-type Task = fn(&Path) -> Result<bool, Lines>;
+/// The status where the call is wrong, or the answer cannot be written.
+const WRONG: u8 = 2;
 
 fn main() -> ExitCode {
-    let words: Vec<OsString> = std::env::args_os().skip(1).collect();
-    match words.first().and_then(|word| word.to_str()) {
-        Some("--help" | "-h") => answer(HELP),
-        Some("--version") => answer(concat!("encode ", env!("CARGO_PKG_VERSION"), "\n")),
-        Some("--check") => on_folders(check, &words[1..]),
-        Some("--print") => on_folders(print, &words[1..]),
-        _ => on_folders(write, &words),
-    }
-}
-
-/// Does the task on each folder; `--` may stand before them.
-fn on_folders(task: Task, words: &[OsString]) -> ExitCode {
-    let folders = match words {
-        [end, folders @ ..] if end == "--" => folders,
-        _ => match words.iter().map(|word| word.to_string_lossy()).find(|word| word.starts_with('-')) {
-            Some(option) => return no_option(&option),
-            None => words,
-        },
+    let status = match parse(std::env::args_os().skip(1).collect()) {
+        Ok(Call::Help) => answer(HELP),
+        Ok(Call::Version) => answer(VERSION),
+        Ok(Call::Folders(task, folders)) => {
+            let fine = folders.iter().filter(|folder| run(task, folder)).count();
+            u8::from(fine < folders.len())
+        }
+        Err(message) => {
+            complain(&[message]);
+            let _ = writeln!(std::io::stderr(), "{}", HELP.split("\n\n").next().unwrap_or(HELP));
+            WRONG
+        }
     };
-    if folders.is_empty() {
-        eprint!("{HELP}");
-        return ExitCode::from(2);
-    }
-    let fine = folders.iter().filter(|folder| run(task, Path::new(folder))).count();
-    ExitCode::from(u8::from(fine < folders.len()))
+    ExitCode::from(status)
 }
 
-fn no_option(option: &str) -> ExitCode {
-    eprintln!("encode: there is no option {option}; a folder of that name is given as ./{option}, or behind `--`");
-    ExitCode::from(2)
-}
-
-fn answer(text: &str) -> ExitCode {
+fn answer(text: &str) -> u8 {
     match say(text) {
-        Ok(()) => ExitCode::SUCCESS,
-        Err(_) => ExitCode::FAILURE,
+        Ok(()) => 0,
+        Err(lines) => {
+            complain(&lines);
+            WRONG
+        }
     }
 }
 
+/// True where nothing is amiss in a folder.
 fn run(task: Task, folder: &Path) -> bool {
-    task(folder).unwrap_or_else(|lines| {
+    let done = match task {
+        Task::Write => write(folder),
+        Task::Check => check(folder),
+        Task::Print => folder::printed(folder).and_then(|text| say(&text)).map(|()| true),
+    };
+    done.unwrap_or_else(|lines| {
         complain(&lines);
         false
     })
-}
-
-fn complain(lines: &[String]) {
-    for line in lines {
-        eprintln!("encode: {line}");
-    }
 }
 
 fn write(path: &Path) -> Result<bool, Lines> {
@@ -76,16 +65,19 @@ fn check(path: &Path) -> Result<bool, Lines> {
     complain(&warnings);
     let differences = folder::differences(path, &finding)?;
     for difference in &differences {
-        say(&format!("{difference}\n"))?;
+        say(&format!("{}\n", shown(difference)))?;
     }
     Ok(differences.is_empty())
 }
 
-fn print(path: &Path) -> Result<bool, Lines> {
-    say(&folder::printed(path)?)?;
-    Ok(true)
+/// Says lines on standard error. Where that cannot be written to, there is nobody to tell.
+fn complain(lines: &[String]) {
+    for line in lines {
+        let _ = writeln!(std::io::stderr(), "encode: {}", shown(line));
+    }
 }
 
 fn say(text: &str) -> Result<(), Lines> {
-    std::io::stdout().write_all(text.as_bytes()).map_err(|error| vec![error.to_string()])
+    let mut out = std::io::stdout();
+    out.write_all(text.as_bytes()).and_then(|()| out.flush()).map_err(|error| vec![format!("standard output: {error}")])
 }

@@ -2,11 +2,15 @@
 
 use crate::fault::Place;
 use crate::lexer::RESERVED;
-use std::collections::BTreeMap;
+use std::collections::{BTreeMap, HashMap};
 
 #[derive(Default)]
 pub struct Scope {
     names: Vec<Name>,
+    /// Where names and abbreviations are in their lists, by their words; and the first name of each number.
+    names_by_word: HashMap<String, usize>,
+    names_by_number: HashMap<usize, usize>,
+    abbreviations_by_word: HashMap<String, usize>,
     bound: Vec<Bound>,
     abbreviations: Vec<Abbreviation>,
     /// How many of the abbreviations can be used: in the text of one, only those before it.
@@ -53,13 +57,15 @@ pub fn is_abbreviation(word: &str) -> bool {
 impl Scope {
     pub fn name(&mut self, word: &str, number: usize, place: Place) -> Result<(), String> {
         self.free(word)?;
+        self.names_by_word.insert(word.to_string(), self.names.len());
+        self.names_by_number.entry(number).or_insert(self.names.len());
         self.names.push(Name { word: word.to_string(), number, place, used: false });
         Ok(())
     }
 
     /// The word of the public name with this number, if it has one.
     pub fn word_of(&self, number: usize) -> Option<&str> {
-        self.names.iter().find(|name| name.number == number).map(|name| name.word.as_str())
+        self.names_by_number.get(&number).map(|index| self.names[*index].word.as_str())
     }
 
     pub fn names(&self) -> &[Name] {
@@ -89,9 +95,9 @@ impl Scope {
 
     /// What a word stands for; it then counts as used.
     pub fn meaning(&mut self, word: &str) -> Option<Meaning> {
-        if let Some(name) = self.names.iter_mut().find(|name| name.word == word) {
-            name.used = true;
-            return Some(Meaning::Name(name.number));
+        if let Some(index) = self.names_by_word.get(word) {
+            self.names[*index].used = true;
+            return Some(Meaning::Name(self.names[*index].number));
         }
         let index = self.bound.iter().position(|bound| bound.word == word && word != "_")?;
         self.bound[index].used = true;
@@ -99,13 +105,14 @@ impl Scope {
     }
 
     pub fn knows(&self, word: &str) -> bool {
-        self.names.iter().any(|name| name.word == word) || self.bound.iter().any(|bound| bound.word == word)
+        self.names_by_word.contains_key(word) || self.bound.iter().any(|bound| bound.word == word)
     }
 
     pub fn abbreviate(&mut self, word: &str, place: Place, start: usize, end: usize) -> Result<(), String> {
-        if self.abbreviations.iter().any(|known| known.word == word) {
+        if self.abbreviations_by_word.contains_key(word) {
             return Err(format!("`{word}` is an abbreviation already"));
         }
+        self.abbreviations_by_word.insert(word.to_string(), self.abbreviations.len());
         self.abbreviations.push(Abbreviation { word: word.to_string(), place, start, end, used: false });
         self.visible = self.abbreviations.len();
         Ok(())
@@ -113,7 +120,7 @@ impl Scope {
 
     /// The abbreviation `word` with its number, if it can be used here; it then counts as used.
     pub fn abbreviation(&mut self, word: &str) -> Option<(usize, Abbreviation)> {
-        let index = self.abbreviations[..self.visible].iter().position(|known| known.word == word)?;
+        let index = *self.abbreviations_by_word.get(word).filter(|index| **index < self.visible)?;
         self.abbreviations[index].used = true;
         Some((index, self.abbreviations[index].clone()))
     }
@@ -121,6 +128,12 @@ impl Scope {
     /// Lets only the first `count` abbreviations be used, and gives how many could be before.
     pub fn show(&mut self, count: usize) -> usize {
         std::mem::replace(&mut self.visible, count)
+    }
+
+    /// The abbreviations that are not used, each with its number.
+    pub fn unused_abbreviations(&self) -> Vec<(usize, Abbreviation)> {
+        let unused = self.abbreviations.iter().cloned().enumerate();
+        unused.filter(|(_, known)| !known.used).collect()
     }
 
     /// What is not used, and where it stands. A word that starts with `_` need not be.

@@ -2,12 +2,17 @@
 
 mod support;
 
+use notation::fault::Place;
 use support::{fault, Random};
 
 #[test]
 fn what_is_said_and_where() {
     for (text, said) in [
-        ("", "line 1, column 1: expected `first`, found the end of the text"),
+        (
+            "",
+            "line 1, column 1: expected `first`, found the end of the text: \
+             there is nothing in it but blanks and comments",
+        ),
         ("first", "line 1, column 6: expected a process, found the end of the text"),
         ("first\n  out(0 1)", "line 2, column 9: expected `,`, found `1`"),
         ("first\n  out(0, 256)", "line 2, column 10: a public name is 0 to 255, found 256 (rule 5)"),
@@ -40,8 +45,9 @@ fn what_is_said_and_where() {
             "line 2, column 9: expected a term, found `6A80`: a word starts with a letter",
         ),
         ("first out(0, 99999999999)", "line 1, column 14: expected a term, found `99999999999`: the number 99999999999 is too large"),
-        ("# é\nfirst é", "line 2, column 7: expected a process, found `é`: this is no part of the notation"),
-        ("first ; nil", "line 1, column 7: expected a process, found `;`: `;` is written `.`"),
+        ("# é\nfirst é", "line 2, column 7: expected a process, found `é` (U+00E9): this is no part of the notation"),
+        ("first ; nil", "line 1, column 7: expected a process, found `;`: \
+             leave it off, or write `.` between an action and what follows"),
     ] {
         assert_eq!(fault(text).to_string(), said, "{text}");
     }
@@ -136,5 +142,48 @@ fn bytes_that_are_no_text() {
         (b"\x80", "line 1, column 1: the byte 80 is no text in UTF-8; is this a file of bytes, or saved otherwise?"),
     ] {
         assert_eq!(notation::text::text(bytes), Err(said.to_string()));
+    }
+}
+
+/// A comment ends with its line, by whichever character that ends.
+#[test]
+fn ends_of_lines() {
+    for end in ["\n", "\r\n", "\r", "\u{85}", "\u{2028}", "\u{2029}"] {
+        let text = ["first nil # a", "| out(0, 1)", "second nil # b", "formula true"].join(end);
+        let read = support::finding(&text);
+        assert_eq!(read.slices[0].bytes, [6, 0, 2, 0, 0, 0, 1, 0], "{end:?}");
+        assert_eq!(fault(&text.replace("true", "x = 1")).place, Place { line: 4, column: 9 }, "{end:?}");
+    }
+}
+
+/// What cannot be seen, or may be taken for something else, is told by its number; what is long is cut.
+#[test]
+fn characters_that_mislead() {
+    for (text, found) in [
+        ("first \u{441}", "`\u{441}` (U+0441)"),
+        ("first \u{200b}nil", "the character U+200B"),
+        ("first \u{1b}[31m", "the character U+001B"),
+        ("first \0", "the character U+0000"),
+    ] {
+        assert!(fault(text).message.starts_with(&format!("expected a process, found {found}: ")), "{}", fault(text));
+    }
+    assert!(fault(&format!("first {}", "x".repeat(100_000))).message.len() < 200);
+}
+
+/// What is in an abbreviation that is not used is read all the same, as a process or a formula.
+#[test]
+fn abbreviations_that_are_not_used() {
+    let rest = "first nil second nil formula true";
+    for good in ["A = out(c, x)", "A = x = y and <out c z> z = z", "A = new x. B", "A = 1 = 1"] {
+        assert_eq!(notation::reading(&format!("{good} {rest}")).faults, [], "{good}");
+    }
+    for (bad, said) in [
+        ("A = )", "line 1, column 5: expected a process, found `)`"),
+        ("A = nil nil", "line 1, column 9: expected the end of the abbreviation, found `nil`"),
+        ("A = <tau> nil", "line 1, column 11: expected a formula, found `nil`"),
+        ("A =", "line 1, column 5: expected a process, found `first`"),
+        ("A = !nil", "line 1, column 5: `!P` is written `repl P`"),
+    ] {
+        assert_eq!(fault(&format!("{bad} {rest}")).to_string(), said, "{bad}");
     }
 }

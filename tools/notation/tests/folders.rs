@@ -1,7 +1,10 @@
 //! The program `encode` on folders.
 
-use notation::folder::load;
+use notation::folder::{load, quoted};
+use std::ffi::OsStr;
 use std::fs;
+use std::os::unix::ffi::OsStrExt;
+use std::os::unix::fs::{symlink, PermissionsExt};
 use std::path::{Path, PathBuf};
 use std::process::{Command, Output};
 
@@ -83,7 +86,8 @@ fn refused_slices_are_not_printed() {
 
 #[test]
 fn tells_how_it_is_used() {
-    for arguments in [vec![], vec!["--check"], vec!["--other", "folder"], vec!["--print", "--"]] {
+    let wrong = ["", "--check", "--other folder", "--print --", "folder --check --print"];
+    for arguments in wrong.map(|words| words.split_whitespace().collect::<Vec<&str>>()) {
         let output = encode(&arguments);
         assert_eq!((output.status.code(), output.stdout.len()), (Some(2), 0));
     }
@@ -112,12 +116,64 @@ fn writes_all_three_files_or_none() {
     fs::write(path.join("finding.txt"), "first repl nil second nil formula true").expect("another finding");
     let output = encode(&[name]);
     assert_eq!(output.status.code(), Some(1));
+    assert!(said(&output).contains("formula.bin: it is no file; nothing is written"), "{}", said(&output));
+    assert_eq!(fs::read(path.join("first.bin")).ok(), Some(vec![0]));
+    assert_eq!(fs::read_dir(&path).expect("the folder").count(), 4);
+}
+
+/// Files that may not be written to are left alone, all three; those that may keep their rights.
+#[test]
+fn rights_of_files() {
+    let path = folder("rights", FINDING);
+    let name = path.to_str().expect("a path in UTF-8");
+    encode(&[name]);
+    let set = |file: &str, mode: u32| {
+        fs::set_permissions(path.join(file), fs::Permissions::from_mode(mode)).expect("other rights");
+    };
+    set("first.bin", 0o600);
+    set("second.bin", 0o444);
+    fs::write(path.join("finding.txt"), "first repl nil second nil formula true").expect("another finding");
+    let output = encode(&[name]);
+    assert_eq!(output.status.code(), Some(1));
+    assert!(said(&output).contains("second.bin: it may not be written to; nothing is written"), "{}", said(&output));
+    assert_eq!(fs::read(path.join("first.bin")).ok(), Some(vec![0]));
+    set("second.bin", 0o640);
+    assert!(encode(&[name]).status.success());
+    let mode = |file: &str| fs::metadata(path.join(file)).expect("a file").permissions().mode() & 0o777;
+    assert_eq!((mode("first.bin"), mode("second.bin")), (0o600, 0o640));
+    assert_eq!(fs::read(path.join("first.bin")).ok(), Some(vec![7, 0]));
+}
+
+/// A link stays one, and what it leads to is written; one that leads nowhere is in the way.
+#[test]
+fn links_to_files() {
+    let (path, elsewhere) = (folder("links", FINDING), folder("elsewhere", ""));
+    let name = path.to_str().expect("a path in UTF-8");
+    fs::write(elsewhere.join("kept.bin"), [9]).expect("a file to be written");
+    symlink(elsewhere.join("kept.bin"), path.join("first.bin")).expect("a link");
+    symlink("nowhere", path.join("second.bin")).expect("a link");
+    let output = encode(&[name]);
     assert!(
-        said(&output).contains("formula.bin: ") && said(&output).contains("nothing is written"),
+        said(&output).contains("second.bin: ") && said(&output).contains("nothing is written"),
         "{}",
         said(&output)
     );
-    assert_eq!(fs::read(path.join("first.bin")).ok(), Some(vec![0]));
+    assert_eq!(fs::read(elsewhere.join("kept.bin")).ok(), Some(vec![9]));
+    fs::remove_file(path.join("second.bin")).expect("a link less");
+    assert!(encode(&[name]).status.success());
+    assert_eq!(fs::read(elsewhere.join("kept.bin")).ok(), Some(vec![0]));
+    assert!(fs::symlink_metadata(path.join("first.bin")).expect("a link").is_symlink());
+    assert_eq!(fs::read_dir(&elsewhere).expect("the folder").count(), 2);
+}
+
+/// What an interrupted call has left beside the files is gone after the next.
+#[test]
+fn what_was_left_behind() {
+    let path = folder("left", FINDING);
+    for file in [".first.bin.new", ".second.bin.old"] {
+        fs::write(path.join(file), [1]).expect("something left");
+    }
+    assert!(encode(&[path.to_str().expect("a path in UTF-8")]).status.success());
     assert_eq!(fs::read_dir(&path).expect("the folder").count(), 4);
 }
 
@@ -144,6 +200,7 @@ fn folders_of_any_name() {
     assert!(said(&wrong).contains("there is no option -x; a folder of that name is given as ./-x, or behind `--`"));
     assert!(run(&["--", "-x"]).status.success());
     assert!(run(&["--check", "./-x"]).status.success());
+    assert!(run(&["./-x", "--check"]).status.success(), "options may stand behind folders");
     for (name, words) in [("nowhere", "there is no folder nowhere"), ("-x/finding.txt", "-x/finding.txt is no folder")]
     {
         let output = run(&["--", name]);
@@ -171,8 +228,8 @@ fn what_is_loaded() {
     assert_eq!(loaded().map(|loaded| (loaded.text.is_some(), loaded.notes)), Ok((true, vec![])));
     fs::write(path.join("second.bin"), [0]).expect("an old slice");
     let old = loaded().map(|_| ()).expect_err("an old slice");
-    let mend = format!("`encode {}` writes it anew", path.display());
-    assert!(old[0].contains("second.bin: it is not what finding.txt says") && old[0].ends_with(&mend), "{old:?}");
+    let mend = format!("`encode {}` writes the files of bytes anew", path.display());
+    assert!(old[0].contains("second.bin: it is not what finding.txt says") && old[1] == mend, "{old:?}");
     fs::remove_file(path.join("finding.txt")).expect("bytes alone");
     assert_eq!(loaded().map(|loaded| (loaded.text.is_some(), loaded.slices[1].clone())), Ok((false, vec![0])));
     fs::remove_file(path.join("first.bin")).expect("two files of bytes");
@@ -188,7 +245,16 @@ fn what_breaks_a_rule_is_loaded() {
     let path = folder("rule", &format!("first {}nil second nil formula true", "repl ".repeat(64)));
     let loaded = load(&path, "encode").expect("its bytes");
     assert_eq!(loaded.slices[0].len(), 65);
-    assert!(loaded.notes[0].contains("line 1, column 327: nested too deep: 65 process nodes"), "{:?}", loaded.notes);
+    assert_eq!(loaded.notes, Vec::<String>::new(), "the answer tells the one place");
+    let path = folder("rules", &format!("first {0}nil second {0}nil formula true", "repl ".repeat(64)));
+    let notes = load(&path, "encode").expect("its bytes").notes;
+    assert!(
+        notes.len() == 2 && notes[0].contains("line 1, column 327: nested too deep: 65 process nodes"),
+        "{notes:?}"
+    );
+    fs::write(path.join("first.bin"), [0]).expect("an old slice");
+    let old = load(&path, "encode").map(|_| ()).expect_err("an old slice");
+    assert!(old.len() == 4 && old[3].starts_with("mend the text first; then `encode "), "{old:?}");
 }
 
 /// A text of a length that no finding has is not read.
@@ -198,4 +264,21 @@ fn long_texts() {
     let output = encode(&[path.to_str().expect("a path in UTF-8")]);
     assert_eq!(output.status.code(), Some(1));
     assert!(said(&output).contains("finding.txt: the text is longer than 1048576 bytes"), "{}", said(&output));
+}
+
+/// A path as a word of a command that names it again.
+#[test]
+fn quoted_paths() {
+    for (path, word) in [
+        ("examples/epassport", "examples/epassport"),
+        ("two words", "'two words'"),
+        ("it's", "'it'\\''s'"),
+        ("", "''"),
+        ("-x", "-- -x"),
+        ("- x", "-- '- x'"),
+        ("\u{1b}[1m", "$'\\x1b[1m'"),
+    ] {
+        assert_eq!(quoted(Path::new(path)), word);
+    }
+    assert_eq!(quoted(Path::new(OsStr::from_bytes(b"caf\xe9"))), "$'caf\\xe9'");
 }

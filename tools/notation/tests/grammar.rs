@@ -56,12 +56,9 @@ fn change(tokens: &mut Vec<Token>, random: &mut Random) {
 }
 
 /// Whether a text has a fault of syntax, or none; otherwise nothing is known. An abbreviation may be used as a formula
-/// and be none, or be used nowhere and so be anything: that is no matter of the grammar.
+/// and be none: that is no matter of the grammar.
 fn has_syntax_fault(text: &str) -> Option<bool> {
     let reading = notation::reading(text);
-    if reading.warnings.iter().any(|warning| warning.message.starts_with("the abbreviation")) {
-        return None;
-    }
     let of_syntax = |fault: &Fault| fault.cause == Cause::Syntax && fault.within.is_none();
     let known = reading.faults.iter().all(of_syntax);
     known.then_some(!reading.faults.is_empty())

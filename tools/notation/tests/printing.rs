@@ -126,7 +126,7 @@ fn lines_stay_short() {
 fn what_it_looks_like() {
     let text = "first\n  new v0. (out(v0, 7) | in(v0, v1). repl out(1, pair(v1, v0)))\n\n\
                 second\n  new _. new v1. in(v1, _)\n\n\
-                formula\n  <out 0 _> [out 1 a1] (fst(a1) = 7 and snd(a1) != 7 or <in 1 a1> true)\n";
+                formula\n  <out 0 _> [out 1 a1] (fst(a1) = 7 and snd(a1) != 7 or <in 1 a1> not true)\n";
     let (first, second, formula) = trees(&finding(text));
     assert_eq!(print::finding(&first, &second, &formula), text);
 }

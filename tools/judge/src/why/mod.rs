@@ -30,15 +30,15 @@ const PATIENCE: Duration = Duration::from_secs(60);
 /// Where a formula fails after several steps, the three that go furthest are told; below that, one.
 const CUT: Cut = Cut { steps: 3, levels: 1 };
 
-const HEADING: &str =
-    "Why? The reasons come from a second checker, which is not proved; its four numbers are those of the \
-                       proved library.";
+const HEADING: &str = concat!(
+    "Why? The reasons come from a second checker, which is not proved; its four numbers are those of the ",
+    "proved library."
+);
 
 const LABELS: &str = "A label in < > or [ ] stands for the formula from there on.";
 
-const PRIVATE: &str =
-    "k#2 is a private name made by `new k`: the second such name told on the way there. In another branch \
-                       the same mark may be another name.";
+/// So many lines are told of a model.
+const LINES: usize = 150;
 
 /// What the second checker makes of a finding.
 #[derive(Clone, Debug, PartialEq, Eq)]
@@ -81,11 +81,23 @@ pub fn explanation(slices: &[Vec<u8>; 3], text: Option<Finding>, answer: Answer,
         return Explanation::Disagrees(message);
     }
     let reasons = reasons(slices, text, answer);
+    if reasons.is_empty() {
+        return Explanation::Told(reasons);
+    }
     let labels = [LABELS].into_iter().filter(|_| reasons.iter().any(|line| line.contains(['<', '['])));
-    let private = ["", PRIVATE].into_iter().filter(|_| reasons.iter().any(|line| line.contains('#')));
     let before = ["", HEADING].into_iter().chain(labels).map(String::from);
-    let after = private.map(String::from);
-    Explanation::Told(before.chain(reasons.iter().cloned()).chain(after).collect())
+    let after = reasons.iter().find_map(|line| private(line)).map(|line| [String::new(), line]);
+    Explanation::Told(before.chain(reasons.iter().cloned()).chain(after.into_iter().flatten()).collect())
+}
+
+/// What the mark of the first private name in a line says.
+fn private(line: &str) -> Option<String> {
+    let before = &line[..line.find('#')?];
+    let word = &before[before.rfind(|c: char| !c.is_ascii_alphanumeric() && c != '_').map_or(0, |at| at + 1)..];
+    Some(format!(
+        "{word}#1 is a private name made by `new {word}`: the first such name told on the way there. In another branch the \
+         same mark may be another name."
+    ))
 }
 
 /// Both models, by what they are called.
@@ -141,7 +153,10 @@ impl Asked<'_> {
         let mut telling = Telling::new(Words::new(&self.finding.names, &places));
         telling.tell(&self.finding.trees[2], &reason);
         let title = format!("The formula is {} of {}.", reason.truth(), MODELS[which]);
-        [vec![String::new(), title], telling.lines].concat()
+        let more = telling.lines.len().saturating_sub(LINES);
+        let more = (more > 0).then(|| format!("  {more} lines more are not told."));
+        let lines = telling.lines.into_iter().take(LINES);
+        [String::new(), title].into_iter().chain(lines).chain(more).collect()
     }
 
     /// Where judging meets a limit first, if it does in this model.

@@ -1,5 +1,6 @@
 //! Where the nodes of the second checker's trees stand in the finding: it tells them by their addresses.
 
+use notation::fault::uses;
 use notation::slice::{Node, Slice};
 use second_checker::syntax::{Formula, Process, Term};
 use std::collections::HashMap;
@@ -57,12 +58,23 @@ impl<'f> Places<'f> {
         }
     }
 
-    /// Which use of an abbreviation is meant, where that is used more than once.
+    /// Which use of an abbreviation is meant, where that is used more than once; of abbreviations in abbreviations as
+    /// many as tell it from the others.
     fn used(&self, node: &Node) -> String {
         let alike = |other: &&Node| other.place == node.place && other.sort == node.sort && other.offset != node.offset;
-        match (&node.within, self.slice.nodes.iter().find(alike)) {
-            (Some(used), Some(_)) => format!(" (in `{}`, used at {})", used.word, used.place),
-            _ => String::new(),
+        let mut others: Vec<&Node> = self.slice.nodes.iter().filter(alike).collect();
+        let mut told = Vec::new();
+        for (depth, used) in uses(&node.within).enumerate() {
+            if others.is_empty() {
+                break;
+            }
+            others.retain(|other| uses(&other.within).nth(depth).is_some_and(|other| other.place == used.place));
+            told.push(format!("in `{}`, used at {}", used.word, used.place));
+        }
+        if told.is_empty() {
+            String::new()
+        } else {
+            format!(" ({})", told.join(", "))
         }
     }
 

@@ -62,7 +62,7 @@ impl<'f> Telling<'f> {
 
     fn equation(&mut self, formula: &Tree, differ: bool, reason: &Reason) {
         let Reason::Equal { left, right } = reason else { return };
-        if !differ && formula.parts.iter().all(|part| (part.kind, part.number) == (Kind::Name, Some(0))) {
+        if shape::is_true(formula) {
             return self.line("true holds");
         }
         let [left_text, right_text] = [0, 1].map(|side| self.words.recipe(&formula.parts[side], &self.aliases));
@@ -136,7 +136,7 @@ impl<'f> Telling<'f> {
                     let place = self.told(step, &one.step);
                     let after = match of {
                         1 => "its only step, ".to_string(),
-                        _ => format!("each of its {of} steps; furthest goes step {}, ", one.number),
+                        _ => format!("each of its {of} steps; told is step {}, ", one.number),
                     };
                     self.line(&format!("{label} {verb} after {after}{place}"));
                     self.body(step, boxed, &one.reason);

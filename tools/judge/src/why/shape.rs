@@ -36,7 +36,7 @@ pub fn shape<'t, 'r, 'm>(formula: &'t Tree, reason: &'r Reason<'m>) -> Shape<'t,
     let Reason::Not(inner) = reason else { return plain(formula, reason) };
     let body = &formula.parts[0];
     match body.kind {
-        Kind::Equal => Shape::Equation { formula: body, differ: true, reason: inner },
+        Kind::Equal if !is_true(body) => Shape::Equation { formula: body, differ: true, reason: inner },
         Kind::And => match denied_sides(formula) {
             Some(sides) => Shape::Sides { sides, or: true, reason: inner },
             None => Shape::Negation { body, reason: inner },
@@ -54,6 +54,11 @@ fn plain<'t, 'r, 'm>(formula: &'t Tree, reason: &'r Reason<'m>) -> Shape<'t, 'r,
         Kind::And => Shape::Sides { sides: [&formula.parts[0], &formula.parts[1]], or: false, reason },
         _ => Shape::Modal { step: formula, boxed: false, reason },
     }
+}
+
+/// Whether an equation is what `true` spells.
+pub fn is_true(equation: &Tree) -> bool {
+    equation.parts.iter().all(|part| (part.kind, part.number) == (Kind::Name, Some(0)))
 }
 
 /// The sides of an `or`: what not, and, not and not are around.

@@ -4,7 +4,7 @@ use super::places::Places;
 use notation::tree::{Kind, Tree};
 use second_checker::messages::{Message, Origin, Shape};
 
-/// A message of more nodes than this is not told below so many nodes on a path.
+/// A message or a recipe of more nodes than this is not told below so many nodes on a path.
 const WHOLE: usize = 40;
 const DEEPEST: usize = 4;
 
@@ -75,9 +75,14 @@ impl<'f> Words<'f> {
 
     /// A recipe, with the words of the aliases around it.
     pub fn recipe(&self, term: &Tree, aliases: &[String]) -> String {
+        self.recipe_below(term, aliases, if nodes(term) > WHOLE { DEEPEST } else { WHOLE })
+    }
+
+    fn recipe_below(&self, term: &Tree, aliases: &[String], most: usize) -> String {
         let word = match (term.kind, term.number) {
             (Kind::Name, Some(number)) => return self.name(number),
             (_, Some(index)) => return aliases.get(index).cloned().unwrap_or("?".to_string()),
+            _ if most == 0 => return "..".to_string(),
             (Kind::Pair, _) => "pair",
             (Kind::Fst, _) => "fst",
             (Kind::Snd, _) => "snd",
@@ -85,7 +90,11 @@ impl<'f> Words<'f> {
             (Kind::Dec, _) => "dec",
             _ => "mac",
         };
-        let parts: Vec<String> = term.parts.iter().map(|part| self.recipe(part, aliases)).collect();
+        let parts: Vec<String> = term.parts.iter().map(|part| self.recipe_below(part, aliases, most - 1)).collect();
         format!("{word}({})", parts.join(", "))
     }
+}
+
+fn nodes(term: &Tree) -> usize {
+    1 + term.parts.iter().map(nodes).sum::<usize>()
 }

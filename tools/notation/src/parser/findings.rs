@@ -5,6 +5,7 @@ use crate::fault::{in_order, Cause, Fault, Place};
 use crate::lexer::lexemes;
 use crate::rules;
 use crate::slice::Slice;
+use crate::text::lines;
 use crate::tree::Tree;
 
 #[derive(Clone, Debug, PartialEq, Eq)]
@@ -51,6 +52,7 @@ pub fn reading(text: &str) -> Reading {
     let formula = parser.section("formula", Parser::formula);
     let answer = parser.answer();
     parser.end();
+    parser.unused_abbreviations();
 
     let trees = [first, second, formula];
     let read = parser.faults.iter().all(|fault| matches!(fault.cause, Cause::Rule(_)));
@@ -76,6 +78,6 @@ fn complete(mut parser: Parser, summary: String, trees: [Tree; 3], answer: Optio
 }
 
 fn summary(text: &str) -> String {
-    let line = text.lines().next().unwrap_or("");
+    let line = lines(text).first().copied().unwrap_or("");
     line.strip_prefix('#').unwrap_or("").trim().to_string()
 }

@@ -50,7 +50,7 @@ impl Parser {
             self.step(place)
         } else if self.take_symbol("[") {
             self.boxed(place)
-        } else if self.take_word("true") {
+        } else if self.take_word("true") || self.take_tt() {
             Ok(self.truth(place))
         } else if self.take_false() {
             let truth = self.truth(place);
@@ -113,7 +113,7 @@ impl Parser {
             let bracket = self.take_bracket("in c M");
             let channel = self.term()?;
             self.take_comma(bracket);
-            let message = self.term()?;
+            let message = self.label_message()?;
             self.take_closing(bracket);
             Ok(self.tree(Kind::InputStep, place, vec![channel, message]))
         } else if self.take_word("tau") {

@@ -37,7 +37,7 @@ pub(super) fn foreign(token: &Token) -> Option<String> {
         _ => return None,
     };
     let hint = match text {
-        ";" => "`;` is written `.`",
+        ";" => "leave it off, or write `.` between an action and what follows",
         ":" => "words have no types",
         "!" => "copies without end are written `repl P`, and negation is written `not F`",
         "||" => "it is written `|` between processes, and `or` between formulas",

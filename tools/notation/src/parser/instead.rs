@@ -2,6 +2,7 @@
 //! on as if that stood there.
 
 use super::habits::{foreign, FUNCTIONS};
+use super::terms::function;
 use super::{Parser, Read, Stop};
 use crate::fault::{Cause, Place};
 use crate::lexer::{Token, RESERVED};
@@ -24,6 +25,16 @@ impl Parser {
             self.at += 1;
         }
         here
+    }
+
+    /// A `:` behind a word that starts a section.
+    pub(super) fn skip_colon(&mut self) {
+        self.take_foreign(":", "leave off this `:`");
+    }
+
+    /// A `;` behind a section.
+    pub(super) fn skip_semicolon(&mut self) {
+        self.take_foreign(";", "leave off this `;`");
     }
 
     pub(super) fn take_bang(&mut self, instead: &str) -> bool {
@@ -66,13 +77,23 @@ impl Parser {
         here
     }
 
-    /// `false`, unless it is a word that stands for something, or one side of an equation.
+    /// `tt`, unless it is a word that stands for something, or one side of an equation.
+    pub(super) fn take_tt(&mut self) -> bool {
+        self.take_constant("tt", "`tt` is written `true`")
+    }
+
+    /// `false` or `ff` in the same way.
     pub(super) fn take_false(&mut self) -> bool {
+        self.take_constant("false", "`false` is written `not true`")
+            || self.take_constant("ff", "`ff` is written `not true`")
+    }
+
+    fn take_constant(&mut self, word: &str, instead: &str) -> bool {
         let next = self.token_at(self.at + 1);
         let in_equation = [Token::Symbol("="), Token::Symbol("!=")].contains(next);
-        let here = self.is_word("false") && !self.scope.knows("false") && !in_equation;
+        let here = self.is_word(word) && !self.scope.knows(word) && !in_equation;
         if here {
-            self.note(self.place(), Cause::Syntax, "`false` is written `not true`");
+            self.note(self.place(), Cause::Syntax, instead);
             self.at += 1;
         }
         here
@@ -134,13 +155,70 @@ impl Parser {
         Ok(self.leaf(Kind::Name, place, 0))
     }
 
+    /// The `,` or `)` behind a term of a function that takes so many.
+    pub(super) fn between_terms(&mut self, symbol: &str, word: &str, arity: usize, open: Place) -> Read<()> {
+        if self.is_symbol(symbol) || !(self.is_symbol(",") || self.is_symbol(")")) {
+            return if symbol == ")" { self.close(")", "(", open) } else { self.symbol(symbol) };
+        }
+        let terms = if arity == 1 { "one term" } else { "two terms" };
+        Err(self.expected_but(&format!("`{symbol}`"), Some(format!("`{word}` takes {terms}"))))
+    }
+
+    /// The word that an input or a `let` binds.
+    pub(super) fn pattern_hint(&self, what: &str) -> Option<String> {
+        let pair = format!("{what} binds one word, as p; its parts are fst(p) and snd(p)");
+        let test = format!("{what} binds a word, as x; write `if x = M then P else nil` after it");
+        if self.is_symbol("(") {
+            Some(pair)
+        } else if self.is_symbol("=") {
+            Some(test)
+        } else {
+            foreign(self.token())
+        }
+    }
+
+    /// The message of an input's label: a recipe, which binds nothing.
+    pub(super) fn label_message(&mut self) -> Read<Tree> {
+        let place = self.place();
+        let Token::Word(word) = self.token().clone() else { return self.term() };
+        let applied = *self.token_at(self.at + 1) == Token::Symbol("(");
+        if !self.at_term() || applied || function(&word).is_some() || self.scope.knows(&word) {
+            return self.term();
+        }
+        let message = format!("unknown word `{word}`: the label `in` has a recipe and binds nothing (rule 6)");
+        self.note(place, Cause::Scope, message);
+        self.at += 1;
+        Ok(self.leaf(Kind::Name, place, 0))
+    }
+
+    /// What may have been meant where a section should start.
+    pub(super) fn section_hint(&self) -> Option<String> {
+        let next = self.token_at(self.at + 1);
+        if let Some(symbol) = [")", ">", "]"].into_iter().find(|symbol| self.is_symbol(symbol)) {
+            return Some(format!("there is nothing open that `{symbol}` closes"));
+        }
+        if self.is_word("else") {
+            return Some("only an `if` has an `else`; nothing in a `let` can fail".to_string());
+        }
+        match self.token() {
+            Token::End if self.lexemes.len() == 1 => Some("there is nothing in it but blanks and comments".to_string()),
+            Token::Word(word) if self.at_abbreviation() && *next == Token::Symbol("(") => Some(format!(
+                "an abbreviation is written `{word} = ..`, and its words mean what they mean where it is used"
+            )),
+            Token::Word(word) if *next == Token::Symbol("=") && !RESERVED.contains(&word.as_str()) => {
+                Some("an abbreviation starts with a capital letter".to_string())
+            }
+            token => foreign(token),
+        }
+    }
+
     /// The word that an output step binds.
     pub(super) fn alias(&mut self) -> Read<String> {
         if self.is_symbol(">") || self.is_symbol("]") {
             let hint = "an output step gives what is sent a word, as in `<out c x>`";
             return Err(self.expected_but("a word to bind", Some(hint.to_string())));
         }
-        self.binder()
+        self.binder("an output step")
     }
 
     pub(super) fn take_bracket(&mut self, instead: &str) -> Bracket {
@@ -161,8 +239,8 @@ impl Parser {
     }
 
     pub(super) fn expected_term(&mut self) -> Stop {
-        let pair = self.is_symbol("(").then(|| "a pair is written `pair(M, N)`".to_string());
-        let hint = pair.or(foreign(self.token()));
+        let pair = "terms have no parentheses around them; a pair is written `pair(M, N)`".to_string();
+        let hint = self.is_symbol("(").then_some(pair).or(foreign(self.token()));
         self.expected_but("a term", hint)
     }
 

@@ -150,11 +150,20 @@ impl Parser {
         }
     }
 
-    fn binder(&mut self) -> Read<String> {
-        let (word, place) = self.word("a word to bind")?;
+    /// A word that `what` binds.
+    fn binder(&mut self, what: &str) -> Read<String> {
+        let (word, place) = self.word_to_bind(what)?;
         self.skip_type();
         self.bind(&word, place);
         Ok(word)
+    }
+
+    fn word_to_bind(&mut self, what: &str) -> Read<(String, Place)> {
+        if !matches!(self.token(), Token::Word(_)) {
+            let hint = self.pattern_hint(what);
+            return Err(self.expected_but("a word to bind", hint));
+        }
+        self.word("a word to bind")
     }
 
     fn tree(&self, kind: Kind, place: Place, parts: Vec<Tree>) -> Tree {

@@ -62,7 +62,7 @@ impl Parser {
 
     /// One name, then the others in the same way, or the dot. Each further one has the place of its word.
     fn new_names(&mut self, place: Place) -> Read<Tree> {
-        let word = self.binder()?;
+        let word = self.binder("`new`")?;
         let then = if self.take_symbol(",") {
             let next = self.place();
             self.node(|parser| parser.new_names(next))?
@@ -92,7 +92,7 @@ impl Parser {
         self.symbol("(")?;
         let channel = self.term()?;
         self.symbol(",")?;
-        let word = self.binder()?;
+        let word = self.binder("`in`")?;
         self.close(")", "(", open)?;
         let then = self.rest()?;
         self.scope.unbind();
@@ -119,7 +119,7 @@ impl Parser {
     }
 
     fn let_in(&mut self, place: Place) -> Read<Tree> {
-        let (word, at) = self.word("a word to bind")?;
+        let (word, at) = self.word_to_bind("`let`")?;
         self.skip_type();
         self.equals()?;
         let value = self.term()?;

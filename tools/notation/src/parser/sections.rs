@@ -1,7 +1,7 @@
 //! The sections of a finding, in their order. After a fault in one, reading goes on at the next.
 
 use super::{Parser, Read, Stop};
-use crate::fault::{Cause, Place};
+use crate::fault::{Cause, Fault, Place};
 use crate::lexer::Token;
 use crate::scope::{is_abbreviation, Meaning};
 use crate::tree::Tree;
@@ -16,10 +16,18 @@ impl Parser {
     }
 
     fn name_list(&mut self) -> Read<()> {
+        self.skip_colon();
         self.name()?;
-        while self.take_symbol(",") {
+        while self.is_symbol(",") {
+            let comma = self.place();
+            self.at += 1;
+            if self.at_boundary() {
+                self.note(comma, Cause::Syntax, "this `,` is one too many: no public name follows");
+                return Ok(());
+            }
             self.name()?;
         }
+        self.skip_semicolon();
         Ok(())
     }
 
@@ -70,9 +78,11 @@ impl Parser {
         if !self.start(word) {
             return None;
         }
+        self.skip_colon();
         (self.nodes, self.depth, self.within) = (0, 0, None);
         let read = inside(self);
         self.scope.unbind_all();
+        self.skip_semicolon();
         if read.is_err() {
             self.skip();
         }
@@ -92,20 +102,19 @@ impl Parser {
     }
 
     fn expected_section(&mut self, word: &str) {
-        let closing = [")", ">", "]"].into_iter().find(|symbol| self.is_symbol(symbol));
-        match closing {
-            Some(symbol) => {
-                self.expected_but(&format!("`{word}`"), Some(format!("there is nothing open that `{symbol}` closes")))
-            }
-            None => self.expected(&format!("`{word}`")),
-        };
+        let hint = self.section_hint();
+        self.expected_but(&format!("`{word}`"), hint);
     }
 
     /// Passes over all up to the next section or abbreviation.
     fn skip(&mut self) {
-        while !self.at_definition(self.at) && !self.at_section() {
+        while !self.at_boundary() {
             self.at += 1;
         }
+    }
+
+    fn at_boundary(&self) -> bool {
+        self.at_definition(self.at) || self.at_section()
     }
 
     /// The same, but sections before `word` are passed over too.
@@ -156,6 +165,7 @@ impl Parser {
         if !self.take_word("answer") {
             return None;
         }
+        self.skip_colon();
         let numbers = self.four_numbers();
         if numbers.is_err() {
             self.at = self.lexemes.len();
@@ -171,5 +181,32 @@ impl Parser {
         if *self.token() != Token::End {
             self.expected("the end of the text");
         }
+    }
+
+    /// Reads what is in abbreviations that are not used, as a process and as a formula. What their words stand for is not
+    /// known; what is neither is told.
+    pub(super) fn unused_abbreviations(&mut self) {
+        for (index, unused) in self.scope.unused_abbreviations() {
+            let shown = self.scope.show(index);
+            let process = self.attempt(unused.start, unused.end, Parser::process);
+            let formula = self.attempt(unused.start, unused.end, Parser::formula);
+            self.scope.show(shown);
+            if let (Some(process), Some(formula)) = (process, formula) {
+                // The one that could be read further.
+                self.faults.push(if formula.place > process.place { formula } else { process });
+            }
+        }
+    }
+
+    /// The first fault of syntax from one token up to another, if there is any.
+    fn attempt(&mut self, start: usize, end: usize, inside: fn(&mut Parser) -> Read<Tree>) -> Option<Fault> {
+        let (faults, warnings) = (std::mem::take(&mut self.faults), std::mem::take(&mut self.warnings));
+        (self.at, self.nodes, self.depth, self.within) = (start, 0, 0, None);
+        if inside(self).is_ok() && self.at != end {
+            self.expected("the end of the abbreviation");
+        }
+        let found = std::mem::replace(&mut self.faults, faults);
+        self.warnings = warnings;
+        found.into_iter().find(|fault| fault.cause == Cause::Syntax && fault.within.is_none())
     }
 }

@@ -3,7 +3,7 @@
 use super::{Parser, Read};
 use crate::fault::{Cause, Place};
 use crate::lexer::{Token, RESERVED};
-use crate::scope::Meaning;
+use crate::scope::{is_abbreviation, Meaning};
 use crate::slice::LARGEST_NUMBER;
 use crate::syntax::LARGEST_NAME;
 use crate::tree::{Kind, Tree};
@@ -37,7 +37,7 @@ impl Parser {
         }
         self.node(|parser| match parser.token().clone() {
             Token::Word(word) => match function(&word) {
-                Some((kind, arity)) => parser.applied(kind, arity),
+                Some((kind, arity)) => parser.applied(&word, kind, arity),
                 None => parser.known(&word),
             },
             _ => parser.number_as_name(),
@@ -65,17 +65,17 @@ impl Parser {
         Ok(self.leaf(Kind::Name, place, number))
     }
 
-    fn applied(&mut self, kind: Kind, arity: usize) -> Read<Tree> {
+    fn applied(&mut self, word: &str, kind: Kind, arity: usize) -> Read<Tree> {
         let place = self.place();
         self.at += 1;
         let open = self.place();
         self.symbol("(")?;
         let mut parts = vec![self.term()?];
         while parts.len() < arity {
-            self.symbol(",")?;
+            self.between_terms(",", word, arity, open)?;
             parts.push(self.term()?);
         }
-        self.close(")", "(", open)?;
+        self.between_terms(")", word, arity, open)?;
         Ok(self.tree(kind, place, parts))
     }
 
@@ -94,6 +94,7 @@ impl Parser {
     fn unknown(&mut self, word: &str, place: Place) -> Tree {
         let message = match word {
             "_" => "`_` binds what is not used, and stands for nothing".to_string(),
+            _ if is_abbreviation(word) => format!("`{word}` is no term: abbreviations are processes or formulas"),
             _ => format!("unknown word `{word}`: it is no public name, and nothing around binds it (rule 6)"),
         };
         if !self.faults.iter().any(|fault| fault.message == message) {

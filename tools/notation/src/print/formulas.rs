@@ -43,12 +43,12 @@ fn shape(formula: &Formula, aliases: usize) -> Shape<'_> {
 
 /// The shape of "not `body`".
 fn negated(body: &Formula, aliases: usize) -> Shape<'_> {
-    if let Formula::Equal(left, right) = body {
-        return Shape::Atom(format!("{} != {}", recipe(left), recipe(right)));
-    }
-    match shape(body, aliases) {
-        Shape::And(Formula::Not(left), Formula::Not(right)) => Shape::Or(left, right),
-        Shape::Prefix(step, Formula::Not(inner), within) if step.starts_with('<') => {
+    match (body, shape(body, aliases)) {
+        (Formula::Equal(left, right), Shape::Atom(text)) if text != "true" => {
+            Shape::Atom(format!("{} != {}", recipe(left), recipe(right)))
+        }
+        (_, Shape::And(Formula::Not(left), Formula::Not(right))) => Shape::Or(left, right),
+        (_, Shape::Prefix(step, Formula::Not(inner), within)) if step.starts_with('<') => {
             Shape::Prefix(format!("[{}]", step.trim_matches(['<', '>'])), inner, within)
         }
         _ => Shape::Prefix("not".to_string(), body, aliases),
