@@ -1,6 +1,7 @@
 //! Reads the notation by recursive descent. Words are looked up as they are met. A fault is noted, and reading goes on where
 //! it is clear what was meant; where it is not, it goes on at the next section of the finding.
 
+mod expected;
 pub mod findings;
 mod formulas;
 mod habits;
