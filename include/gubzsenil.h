@@ -22,7 +22,7 @@ extern "C" {
 #define GUBZSENIL_SLICE_BYTES 4096
 #define GUBZSENIL_WORK_BYTES 65536
 
-/* The first number of an answer. Those below 10 refuse the input, those from 10 on the finding. */
+/* The first number of an answer: 1 to 9 refuse the input, 10 and 11 leave the finding unsettled, 12 and 13 refuse it. */
 enum gubzsenil_result {
     GUBZSENIL_ACCEPTED = 0,       /* true of the first model, false of the second: no strong early bisimulation relates them */
     GUBZSENIL_TOO_LONG = 1,       /* a slice is longer than 4,096 bytes */

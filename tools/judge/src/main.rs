@@ -35,9 +35,16 @@ fn answer(call: &Call) -> io::Result<u8> {
     }
 }
 
-/// The command that writes files of bytes anew, as the one who calls this program can call it.
+/// The command that writes files of bytes anew, as the one who calls this program can call it: what the caller says it is,
+/// or the program beside this one, by its name alone where that is found.
 fn mend() -> String {
-    std::env::var_os("GUBZSENIL_ENCODE").map_or("encode".to_string(), |path| quoted(Path::new(&path)))
+    if let Some(path) = std::env::var_os("GUBZSENIL_ENCODE") {
+        return quoted(Path::new(&path));
+    }
+    let beside = std::env::current_exe().ok().map(|path| path.with_file_name("encode")).filter(|path| path.exists());
+    let folders = std::env::var_os("PATH").unwrap_or_default();
+    let is_found = |path: &Path| std::env::split_paths(&folders).any(|folder| path.parent() == Some(&folder));
+    beside.filter(|path| !is_found(path)).map_or("encode".to_string(), |path| quoted(&path))
 }
 
 /// Standard output cannot be written to. Whoever closed a pipe knows that.

@@ -68,9 +68,18 @@ pub fn uses(within: &Within) -> impl Iterator<Item = &Use> {
     std::iter::successors(within.as_deref(), |used| used.outer.as_deref())
 }
 
-/// The faults in the order of their places, of those at one place the first.
+/// The faults in the order of their places. Of those of syntax at one place the first is told, and none twice.
 pub fn in_order(mut faults: Vec<Fault>) -> Vec<Fault> {
     faults.sort_by_key(|fault| fault.place);
-    faults.dedup_by_key(|fault| fault.place);
-    faults
+    let mut told: Vec<Fault> = Vec::new();
+    for fault in faults {
+        let same = |other: &Fault| {
+            other.message == fault.message || (other.cause, fault.cause) == (Cause::Syntax, Cause::Syntax)
+        };
+        let mut here = told.iter().rev().take_while(|other| other.place == fault.place);
+        if !here.any(same) {
+            told.push(fault);
+        }
+    }
+    told
 }

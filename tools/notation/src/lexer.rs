@@ -28,7 +28,11 @@ pub const RESERVED: [&str; 25] = [
     "and", "or", "tau", "true", "names", "first", "second", "formula", "answer",
 ];
 
-/// Of a token so many characters are told.
+/// Letters that the calculus and the logic are printed with, which stand for themselves.
+const CALCULUS: [char; 2] = ['ν', 'τ'];
+
+/// A word or number has so many characters at most, and of a token so many are told.
+const LONGEST: usize = 255;
 const TOLD: usize = 40;
 
 /// What other notations have in more than one character; these are looked for first.
@@ -47,11 +51,13 @@ impl fmt::Display for Token {
 
 /// A token as it stands; a character that is not seen, or may be taken for another, by its number.
 fn told(text: &str) -> String {
-    match text.chars().next() {
+    let cut: String = text.chars().take(TOLD).collect();
+    let dots = if text.chars().count() > TOLD { ".." } else { "" };
+    match text.chars().find(|c| !c.is_ascii() || is_unseen(*c)) {
         Some(c) if is_unseen(c) => format!("the character U+{:04X}", u32::from(c)),
-        Some(c) if !c.is_ascii() => format!("`{c}` (U+{:04X})", u32::from(c)),
-        _ if text.chars().count() > TOLD => format!("`{}..`", text.chars().take(TOLD).collect::<String>()),
-        _ => format!("`{text}`"),
+        Some(c) if text.chars().count() == 1 => format!("`{c}` (U+{:04X})", u32::from(c)),
+        Some(c) => format!("`{cut}{dots}`, in which `{c}` is U+{:04X}", u32::from(c)),
+        None => format!("`{cut}{dots}`"),
     }
 }
 
@@ -89,14 +95,19 @@ fn first_token(text: &str) -> (Token, usize) {
     if let Some(symbol) = SYMBOLS.iter().find(|symbol| text.starts_with(**symbol)) {
         return (Token::Symbol(symbol), symbol.len());
     }
-    let length = text.find(|c: char| !c.is_ascii_alphanumeric() && c != '_').unwrap_or(text.len());
+    let first = text.chars().next().unwrap_or(' ');
+    let length = match text.find(|c: char| !c.is_alphanumeric() && c != '_').unwrap_or(text.len()) {
+        0 => first.len_utf8(),
+        _ if CALCULUS.contains(&first) => first.len_utf8(),
+        length => length,
+    };
     let run = &text[..length];
-    match run.chars().next() {
-        None => {
-            let foreign: String = text.chars().take(1).collect();
-            (Token::Foreign(foreign.clone()), foreign.len())
-        }
-        Some(c) if c.is_ascii_digit() => (run.parse().map_or(Token::Foreign(run.to_string()), Token::Number), length),
-        Some(_) => (Token::Word(run.to_string()), length),
-    }
+    let foreign = Token::Foreign(run.to_string());
+    let is_word = run.len() <= LONGEST && run.chars().all(|c| c.is_ascii_alphanumeric() || c == '_');
+    let token = match is_word {
+        false => foreign,
+        true if first.is_ascii_digit() => run.parse().map_or(foreign, Token::Number),
+        true => Token::Word(run.to_string()),
+    };
+    (token, length)
 }

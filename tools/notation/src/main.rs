@@ -4,7 +4,7 @@ use notation::arguments::{parse, Call, Task};
 use notation::folder::{self, Lines};
 use notation::text::shown;
 use notation::writing;
-use std::io::Write;
+use std::io::{ErrorKind, Write};
 use std::path::Path;
 use std::process::ExitCode;
 
@@ -16,8 +16,14 @@ const WRONG: u8 = 2;
 
 fn main() -> ExitCode {
     let status = match parse(std::env::args_os().skip(1).collect()) {
-        Ok(Call::Help) => answer(HELP),
-        Ok(Call::Version) => answer(VERSION),
+        Ok(Call::Help) => {
+            say(HELP);
+            0
+        }
+        Ok(Call::Version) => {
+            say(VERSION);
+            0
+        }
         Ok(Call::Folders(task, folders)) => {
             let fine = folders.iter().filter(|folder| run(task, folder)).count();
             u8::from(fine < folders.len())
@@ -31,22 +37,15 @@ fn main() -> ExitCode {
     ExitCode::from(status)
 }
 
-fn answer(text: &str) -> u8 {
-    match say(text) {
-        Ok(()) => 0,
-        Err(lines) => {
-            complain(&lines);
-            WRONG
-        }
-    }
-}
-
 /// True where nothing is amiss in a folder.
 fn run(task: Task, folder: &Path) -> bool {
     let done = match task {
         Task::Write => write(folder),
         Task::Check => check(folder),
-        Task::Print => folder::printed(folder).and_then(|text| say(&text)).map(|()| true),
+        Task::Print => folder::printed(folder).map(|text| {
+            say(&text);
+            true
+        }),
     };
     done.unwrap_or_else(|lines| {
         complain(&lines);
@@ -55,6 +54,7 @@ fn run(task: Task, folder: &Path) -> bool {
 }
 
 fn write(path: &Path) -> Result<bool, Lines> {
+    let _lock = writing::lock(path)?;
     let (finding, warnings) = folder::finding(path)?;
     complain(&warnings);
     writing::write(path, &finding).map(|()| true)
@@ -65,7 +65,7 @@ fn check(path: &Path) -> Result<bool, Lines> {
     complain(&warnings);
     let differences = folder::differences(path, &finding)?;
     for difference in &differences {
-        say(&format!("{}\n", shown(difference)))?;
+        say(&format!("{}\n", shown(difference)));
     }
     Ok(differences.is_empty())
 }
@@ -77,7 +77,13 @@ fn complain(lines: &[String]) {
     }
 }
 
-fn say(text: &str) -> Result<(), Lines> {
+/// Says a text on standard output. Where that cannot be written to, nothing further is done; whoever closed a pipe knows.
+fn say(text: &str) {
     let mut out = std::io::stdout();
-    out.write_all(text.as_bytes()).and_then(|()| out.flush()).map_err(|error| vec![format!("standard output: {error}")])
+    if let Err(error) = out.write_all(text.as_bytes()).and_then(|()| out.flush()) {
+        if error.kind() != ErrorKind::BrokenPipe {
+            complain(&[format!("standard output: {error}")]);
+        }
+        std::process::exit(i32::from(WRONG));
+    }
 }

@@ -148,7 +148,9 @@ impl Scope {
     }
 
     fn free(&self, word: &str) -> Result<(), String> {
-        if RESERVED.contains(&word) {
+        if word == "_" {
+            Err("`_` binds what is not used, and is no public name".to_string())
+        } else if RESERVED.contains(&word) {
             Err(format!("`{word}` is a reserved word"))
         } else if is_abbreviation(word) {
             Err(format!("`{word}` starts with a capital letter, as abbreviations do"))

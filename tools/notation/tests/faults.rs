@@ -44,7 +44,7 @@ fn what_is_said_and_where() {
             "first\n\tout(0, 6A80)",
             "line 2, column 9: expected a term, found `6A80`: a word starts with a letter",
         ),
-        ("first out(0, 99999999999)", "line 1, column 14: expected a term, found `99999999999`: the number 99999999999 is too large"),
+        ("first out(0, 99999999999)", "line 1, column 14: expected a term, found `99999999999`: this number is too large"),
         ("# é\nfirst é", "line 2, column 7: expected a process, found `é` (U+00E9): this is no part of the notation"),
         ("first ; nil", "line 1, column 7: expected a process, found `;`: \
              leave it off, or write `.` between an action and what follows"),
@@ -88,6 +88,9 @@ fn deep_and_large_texts_are_refused() {
     let faults =
         notation::read(&format!("A0 = nil nil\n{doubling}first A59 second A59 formula true")).expect_err("faults");
     assert!(faults.iter().any(|fault| fault.message.contains("the end of the abbreviation")), "{faults:?}");
+    let unused: String = (0..3000).map(|i| format!("B{i} = A14\n")).collect();
+    let doubling: String = (1..15).map(|i| format!("A{i} = A{} | A{}\n", i - 1, i - 1)).collect();
+    support::finding(&format!("A0 = nil\n{doubling}{unused}first nil second nil formula true"));
 }
 
 #[test]
@@ -164,10 +167,14 @@ fn characters_that_mislead() {
         ("first \u{200b}nil", "the character U+200B"),
         ("first \u{1b}[31m", "the character U+001B"),
         ("first \0", "the character U+0000"),
+        ("first n\u{456}l", "`n\u{456}l`, in which `\u{456}` is U+0456"),
     ] {
         assert!(fault(text).message.starts_with(&format!("expected a process, found {found}: ")), "{}", fault(text));
     }
-    assert!(fault(&format!("first {}", "x".repeat(100_000))).message.len() < 200);
+    for long in ["x".repeat(100_000), "9".repeat(100_000), format!("out(0, {})", "x".repeat(256))] {
+        assert!(fault(&format!("first {long}")).message.len() < 200);
+    }
+    support::finding(&format!("names {0} = 1 first out({0}, 2) second nil formula true", "x".repeat(255)));
 }
 
 /// What is in an abbreviation that is not used is read all the same, as a process or a formula.

@@ -166,15 +166,43 @@ fn links_to_files() {
     assert_eq!(fs::read_dir(&elsewhere).expect("the folder").count(), 2);
 }
 
-/// What an interrupted call has left beside the files is gone after the next.
+/// Files that lead to each other, or to the text, are left alone.
+#[test]
+fn links_to_one_file() {
+    for (name, links) in [
+        ("one", [("first.bin", "shared"), ("second.bin", "shared")]),
+        ("other", [("first.bin", "second.bin"), ("unused", "shared")]),
+        ("text", [("first.bin", "finding.txt"), ("unused", "shared")]),
+    ] {
+        let path = folder(name, FINDING);
+        fs::write(path.join("shared"), "old").expect("a file");
+        fs::write(path.join("second.bin"), "old").expect("a file");
+        for (link, to) in links {
+            let _ = fs::remove_file(path.join(link));
+            symlink(to, path.join(link)).expect("a link");
+        }
+        let before = files(&path);
+        let output = encode(&[path.to_str().expect("a path in UTF-8")]);
+        assert_eq!(output.status.code(), Some(1), "{name}");
+        assert!(
+            said(&output).contains("it leads to another file of the finding; nothing is written"),
+            "{}",
+            said(&output)
+        );
+        assert_eq!(files(&path), before, "{name}");
+    }
+}
+
+/// What an interrupted call has left beside the files is gone after the next, and leads it nowhere.
 #[test]
 fn what_was_left_behind() {
     let path = folder("left", FINDING);
-    for file in [".first.bin.new", ".second.bin.old"] {
-        fs::write(path.join(file), [1]).expect("something left");
-    }
+    fs::write(path.join("victim"), "kept").expect("a file");
+    symlink("victim", path.join(".first.bin.encode-new")).expect("a link");
+    fs::write(path.join(".second.bin.encode-old"), [1]).expect("something left");
     assert!(encode(&[path.to_str().expect("a path in UTF-8")]).status.success());
-    assert_eq!(fs::read_dir(&path).expect("the folder").count(), 4);
+    assert_eq!(fs::read_dir(&path).expect("the folder").count(), 5);
+    assert_eq!(fs::read_to_string(path.join("victim")).ok().as_deref(), Some("kept"));
 }
 
 /// The names of the files in a folder, with their bytes.

@@ -72,7 +72,8 @@ fn what_is_said() {
             "expected `first`, found `free`: public names are declared at the top, as in `names c = 0, d = 1`",
         ),
         ("process nil", "expected `first`, found `process`: the models are written behind `first` and `second`"),
-        ("first out(1, 2).", "expected a process, found the end of the text: leave off the `.` where nothing follows"),
+        ("first out(1, 2). second nil formula true", "leave off the `.` where nothing follows"),
+        ("first repl", "expected a process, found the end of the text"),
         ("first nil)", "expected `second`, found `)`: there is nothing open that `)` closes"),
         ("(* A comment. *) first nil second nil formula true", "a comment starts with `#`, and ends with its line"),
         ("first nil // A comment.\nsecond nil formula true", "a comment starts with `#`, and ends with its line"),
@@ -96,7 +97,17 @@ fn what_is_said() {
         ("first in(1, =2)", "expected a word to bind, found `=`: `in` binds a word, as x; write `if x = M then P else nil` after it"),
         ("first let (x, y) = 1 in nil", "expected a word to bind, found `(`: `let` binds one word, as p; its parts are fst(p) and snd(p)"),
         ("first let x = 1 in nil else nil", "expected `second`, found `else`: only an `if` has an `else`; nothing in a `let` can fail"),
-        ("names c = 0, first nil second nil formula true", "this `,` is one too many: no public name follows"),
+        ("names c = 0, first nil second nil formula true", "leave this off: no public name follows"),
+        ("names c = 0; d = 1 first out(c, d) second nil formula true", "`;` is written `,` between public names"),
+        ("names c = 0 d = 1 first out(c, d) second nil formula true", "a `,` is missing between two public names"),
+        ("names c = 0. first out(c, c) second nil formula true", "leave off this `.`"),
+        ("names _ = 0 first nil second nil formula true", "`_` binds what is not used, and is no public name"),
+        ("first out(0, 1); second nil formula true", "leave off the `;` where nothing follows"),
+        ("first (out(0, 1). | nil) second nil formula true", "leave off the `.` where nothing follows"),
+        ("first nil. second nil formula true", "leave off this `.`"),
+        ("first nil second nil formula true answer 1 2 3 4;", "leave off this `;`"),
+        ("first out(0, 1, 2)", "expected `)`, found `,`: an output sends one message; pair(M, N) is two in one"),
+        ("first new (k, l). nil", "expected a word to bind, found `(`: several private names are written `new k, l. P`"),
         ("names c = 0; first nil second nil formula true", "leave off this `;`"),
         ("first nil second nil formula true;", "leave off this `;`"),
         ("first: nil second nil formula true", "leave off this `:`"),
@@ -119,6 +130,20 @@ fn behind_comments() {
     assert_eq!(said.len(), 3, "{said:?}");
     assert!(said[2].starts_with("line 3, column 20: unknown word `x`"), "{said:?}");
     assert_eq!(all("first nil second nil formula true (* open").len(), 1);
+}
+
+/// What is told with what to write causes no further fault.
+#[test]
+fn one_fault_for_one_slip() {
+    for text in [
+        "names c = 0; d = 1 first out(c, d) second nil formula true",
+        "names c = 0 d = 1 first out(c, d) second nil formula true",
+        "free c: channel. names c = 0 first out(c, c) second nil formula true",
+        "first nil second nil formula <in 0 x> x = 1",
+        "first out(0, 1); second nil formula true",
+    ] {
+        assert_eq!(all(text).len(), 1, "{:?}", all(text));
+    }
 }
 
 /// `false` may be a word like any other.

@@ -16,7 +16,8 @@ fn broken(text: &str) -> Vec<String> {
     let refusals = [decoding::process(&first.bytes).err(), decoding::process(&second.bytes).err()];
     let refused = refusals.into_iter().flatten().chain(decoding::formula(&formula.bytes).err()).next();
     let rules: Vec<Cause> = reading.faults.iter().map(|fault| fault.cause).collect();
-    assert_eq!(rules.first().copied(), refused.map(|refusal| Cause::Rule(refusal.rule)), "{text}");
+    let rule = refused.map(|refusal| Cause::Rule(refusal.rule));
+    assert!(rule.map_or(rules.is_empty(), |rule| rules.contains(&rule)), "{text}");
     told(&reading.faults)
 }
 
@@ -101,6 +102,22 @@ fn public_names() {
     assert_eq!(broken(&format!("first out(1, 256) {TRUE}")), [said]);
     let text = format!("first out(1, 16384) {TRUE}");
     assert!(notation::reading(&text).finding.is_none(), "no two bytes hold it");
+    // A word for such a name is a fault, used or not, though the bytes have it only where it is used.
+    let text = format!("names c = 256 first nil {TRUE}");
+    assert!(notation::reading(&text).finding.is_none());
+    assert_eq!(
+        told(&notation::reading(&text).faults),
+        ["line 1, column 11: a public name is 0 to 255, found 256 (rule 5)"]
+    );
+}
+
+/// Two rules that are broken at one place are both told.
+#[test]
+fn two_rules_at_one_place() {
+    let deep = format!("first out(1, {}) {TRUE}", term(9).replace('1', "256"));
+    let said = broken(&deep);
+    assert_eq!(said.len(), 2, "{said:?}");
+    assert!(said[0].contains("256 (rule 5)") && said[1].contains("9 term nodes"), "{said:?}");
 }
 
 /// Faults of all sorts in one text, told in the order of their places; what is in an abbreviation is told once.

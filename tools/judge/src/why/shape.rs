@@ -56,9 +56,9 @@ fn plain<'t, 'r, 'm>(formula: &'t Tree, reason: &'r Reason<'m>) -> Shape<'t, 'r,
     }
 }
 
-/// Whether an equation is what `true` spells.
+/// Whether an equation is written as `true`: all of it then stands at one place.
 pub fn is_true(equation: &Tree) -> bool {
-    equation.parts.iter().all(|part| (part.kind, part.number) == (Kind::Name, Some(0)))
+    equation.parts.iter().all(|part| (part.kind, part.place) == (Kind::Name, equation.place))
 }
 
 /// The sides of an `or`: what not, and, not and not are around.

@@ -1,6 +1,7 @@
 //! What should stand somewhere, and what may have been meant by what does.
 
 use super::habits::foreign;
+use super::terms::function;
 use super::{Parser, Read, Stop};
 use crate::fault::Place;
 use crate::lexer::{Token, RESERVED};
@@ -15,11 +16,22 @@ impl Parser {
         Err(self.expected_but(&format!("`{symbol}`"), Some(format!("`{word}` takes {terms}"))))
     }
 
+    /// The `)` of an output or input.
+    pub(super) fn end_of_action(&mut self, hint: &str, open: Place) -> Read<()> {
+        match self.is_symbol(",") {
+            true => Err(self.expected_but("`)`", Some(hint.to_string()))),
+            false => self.close(")", "(", open),
+        }
+    }
+
     /// The word that an input or a `let` binds.
     pub(super) fn pattern_hint(&self, what: &str) -> Option<String> {
         let pair = format!("{what} binds one word, as p; its parts are fst(p) and snd(p)");
         let test = format!("{what} binds a word, as x; write `if x = M then P else nil` after it");
-        if self.is_symbol("(") {
+        let is_pattern = matches!(self.token(), Token::Word(word) if function(word).is_some());
+        if self.is_symbol("(") && what == "`new`" {
+            Some("several private names are written `new k, l. P`".to_string())
+        } else if self.is_symbol("(") || is_pattern {
             Some(pair)
         } else if self.is_symbol("=") {
             Some(test)

@@ -50,7 +50,8 @@ pub(super) fn foreign(token: &Token) -> Option<String> {
         "¬" | "~" => "it is written `not`",
         "τ" => "it is written `tau`",
         "⟨" | "⟩" => "it is written `<` and `>`",
-        _ if text.chars().all(|c| c.is_ascii_digit()) => return Some(format!("the number {text} is too large")),
+        _ if text.chars().all(|c| c.is_ascii_digit()) => "this number is too large",
+        _ if text.is_ascii() && text.len() > 255 => "a word has at most 255 characters",
         _ if text.starts_with(|c: char| c.is_ascii_digit()) => "a word starts with a letter",
         _ => "this is no part of the notation",
     };

@@ -5,7 +5,8 @@ use super::habits::FUNCTIONS;
 use super::terms::function;
 use super::{Parser, Read};
 use crate::fault::{Cause, Place};
-use crate::lexer::Token;
+use crate::lexer::{Token, RESERVED};
+use crate::scope::is_abbreviation;
 use crate::tree::{Kind, Tree};
 
 /// Whether a label has parentheses, which it should not have.
@@ -32,9 +33,46 @@ impl Parser {
         self.take_foreign(":", "leave off this `:`");
     }
 
-    /// A `;` behind a section.
-    pub(super) fn skip_semicolon(&mut self) {
-        self.take_foreign(";", "leave off this `;`");
+    /// A `;` or `.` behind a section.
+    pub(super) fn skip_end(&mut self) {
+        if self.take_foreign(";", "leave off this `;`") {
+            return;
+        }
+        let last = *self.token_at(self.at + 1) == Token::End || self.is_boundary(self.at + 1);
+        if self.is_symbol(".") && last {
+            self.note(self.place(), Cause::Syntax, "leave off this `.`");
+            self.at += 1;
+        }
+    }
+
+    /// The `,` between public names, or what stands for it.
+    pub(super) fn take_comma_of_names(&mut self) -> bool {
+        let names_next = |at: usize| {
+            matches!(self.token_at(at), Token::Word(word) if !is_abbreviation(word) && !RESERVED.contains(&word.as_str()))
+                && *self.token_at(at + 1) == Token::Symbol("=")
+        };
+        if names_next(self.at) {
+            self.note(self.place(), Cause::Syntax, "a `,` is missing between two public names");
+            return true;
+        }
+        if self.is_foreign(";") && names_next(self.at + 1) {
+            return self.take_foreign(";", "`;` is written `,` between public names");
+        }
+        self.take_symbol(",")
+    }
+
+    /// The `.` behind an action, or what stands for it, where something follows.
+    pub(super) fn take_dot(&mut self) -> bool {
+        let is_last = |token: &Token| matches!(token, Token::End | Token::Symbol(")" | "|"));
+        if (self.is_symbol(".") || self.is_foreign(";"))
+            && (is_last(self.token_at(self.at + 1)) || self.is_boundary(self.at + 1))
+        {
+            let written = if self.is_symbol(".") { "`.`" } else { "`;`" };
+            self.note(self.place(), Cause::Syntax, format!("leave off the {written} where nothing follows"));
+            self.at += 1;
+            return false;
+        }
+        self.take_symbol(".") || self.take_semicolon()
     }
 
     pub(super) fn take_bang(&mut self, instead: &str) -> bool {

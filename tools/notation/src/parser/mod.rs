@@ -160,7 +160,7 @@ impl Parser {
     }
 
     fn word_to_bind(&mut self, what: &str) -> Read<(String, Place)> {
-        if !matches!(self.token(), Token::Word(_)) {
+        if !matches!(self.token(), Token::Word(word) if terms::function(word).is_none()) {
             let hint = self.pattern_hint(what);
             return Err(self.expected_but("a word to bind", hint));
         }

@@ -82,7 +82,7 @@ impl Parser {
         let channel = self.term()?;
         self.symbol(",")?;
         let message = self.term()?;
-        self.close(")", "(", open)?;
+        self.end_of_action("an output sends one message; pair(M, N) is two in one", open)?;
         let then = self.rest()?;
         Ok(self.tree(Kind::Output, place, vec![channel, message, then]))
     }
@@ -93,7 +93,7 @@ impl Parser {
         let channel = self.term()?;
         self.symbol(",")?;
         let word = self.binder("`in`")?;
-        self.close(")", "(", open)?;
+        self.end_of_action("an input binds one word, as p; its parts are fst(p) and snd(p)", open)?;
         let then = self.rest()?;
         self.scope.unbind();
         Ok(Tree { word: Some(word), ..self.tree(Kind::Input, place, vec![channel, then]) })
@@ -101,7 +101,7 @@ impl Parser {
 
     /// What follows an output or input; left off, it is nil, at the place behind.
     fn rest(&mut self) -> Read<Tree> {
-        if self.take_symbol(".") || self.take_semicolon() {
+        if self.take_dot() {
             self.sequence()
         } else {
             Ok(self.tree(Kind::Nil, self.place(), Vec::new()))

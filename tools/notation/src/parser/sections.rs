@@ -1,6 +1,6 @@
 //! The sections of a finding, in their order. After a fault in one, reading goes on at the next.
 
-use super::{Parser, Read, Stop};
+use super::{Parser, Read, Stop, MOST_NODES};
 use crate::fault::{Cause, Fault, Place};
 use crate::lexer::Token;
 use crate::scope::{is_abbreviation, Meaning};
@@ -9,7 +9,14 @@ use crate::tree::Tree;
 const SECTIONS: [&str; 4] = ["first", "second", "formula", "answer"];
 
 impl Parser {
+    /// What stands before `names` is told, and passed over.
     pub(super) fn names(&mut self) {
+        if !self.is_word("names") && !self.at_boundary() {
+            self.expected_section("first");
+            while !self.is_word("names") && !self.at_boundary() {
+                self.at += 1;
+            }
+        }
         if self.take_word("names") && self.name_list().is_err() {
             self.skip_to("first");
         }
@@ -18,16 +25,14 @@ impl Parser {
     fn name_list(&mut self) -> Read<()> {
         self.skip_colon();
         self.name()?;
-        while self.is_symbol(",") {
-            let comma = self.place();
-            self.at += 1;
+        while self.take_comma_of_names() {
             if self.at_boundary() {
-                self.note(comma, Cause::Syntax, "this `,` is one too many: no public name follows");
+                self.note(self.place_at(self.at - 1), Cause::Syntax, "leave this off: no public name follows");
                 return Ok(());
             }
             self.name()?;
         }
-        self.skip_semicolon();
+        self.skip_end();
         Ok(())
     }
 
@@ -47,7 +52,8 @@ impl Parser {
         if let Token::Word(other) = self.token().clone() {
             return self.same_name(&other);
         }
-        let number = self.public_name()?;
+        // In the bytes it is only where the word is used.
+        let number = self.public_name(Cause::Scope)?;
         if let Some(other) = self.scope.word_of(number).filter(|other| *other != word) {
             let message =
                 format!("`{word}` and `{other}` are one public name, {number}; if so meant: `{word} = {other}`");
@@ -82,7 +88,7 @@ impl Parser {
         (self.nodes, self.depth, self.within) = (0, 0, None);
         let read = inside(self);
         self.scope.unbind_all();
-        self.skip_semicolon();
+        self.skip_end();
         if read.is_err() {
             self.skip();
         }
@@ -113,8 +119,13 @@ impl Parser {
         }
     }
 
-    fn at_boundary(&self) -> bool {
-        self.at_definition(self.at) || self.at_section()
+    pub(super) fn at_boundary(&self) -> bool {
+        self.is_boundary(self.at)
+    }
+
+    /// Whether a section, an abbreviation or the end is at a token.
+    pub(super) fn is_boundary(&self, at: usize) -> bool {
+        self.at_definition(at) || self.is_section(at)
     }
 
     /// The same, but sections before `word` are passed over too.
@@ -153,7 +164,11 @@ impl Parser {
     }
 
     pub(super) fn at_section(&self) -> bool {
-        match self.token() {
+        self.is_section(self.at)
+    }
+
+    fn is_section(&self, at: usize) -> bool {
+        match self.token_at(at) {
             Token::Word(word) => SECTIONS.contains(&word.as_str()),
             token => *token == Token::End,
         }
@@ -167,6 +182,7 @@ impl Parser {
         }
         self.skip_colon();
         let numbers = self.four_numbers();
+        self.skip_end();
         if numbers.is_err() {
             self.at = self.lexemes.len();
         }
@@ -186,11 +202,15 @@ impl Parser {
     /// Reads what is in abbreviations that are not used, as a process and as a formula. What their words stand for is not
     /// known; what is neither is told.
     pub(super) fn unused_abbreviations(&mut self) {
+        self.nodes = 0;
         for (index, unused) in self.scope.unused_abbreviations() {
             let shown = self.scope.show(index);
             let process = self.attempt(unused.start, unused.end, Parser::process);
             let formula = self.attempt(unused.start, unused.end, Parser::formula);
             self.scope.show(shown);
+            if self.nodes > MOST_NODES {
+                return;
+            }
             if let (Some(process), Some(formula)) = (process, formula) {
                 // The one that could be read further.
                 self.faults.push(if formula.place > process.place { formula } else { process });
@@ -201,7 +221,7 @@ impl Parser {
     /// The first fault of syntax from one token up to another, if there is any.
     fn attempt(&mut self, start: usize, end: usize, inside: fn(&mut Parser) -> Read<Tree>) -> Option<Fault> {
         let (faults, warnings) = (std::mem::take(&mut self.faults), std::mem::take(&mut self.warnings));
-        (self.at, self.nodes, self.depth, self.within) = (start, 0, 0, None);
+        (self.at, self.depth, self.within) = (start, 0, None);
         if inside(self).is_ok() && self.at != end {
             self.expected("the end of the abbreviation");
         }

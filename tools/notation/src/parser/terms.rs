@@ -44,12 +44,13 @@ impl Parser {
         })
     }
 
-    /// A public name's number. One over the limit is noted; no two bytes hold one over 16,383.
-    pub(super) fn public_name(&mut self) -> Read<usize> {
+    /// A public name's number. One over the limit is noted, by the cause that it is there.
+    pub(super) fn public_name(&mut self, cause: Cause) -> Read<usize> {
         let place = self.place();
         let number = self.number()? as usize;
         if number > usize::from(LARGEST_NAME) {
-            let cause = if number > LARGEST_NUMBER { Cause::Scope } else { Cause::Rule(5) };
+            // No two bytes hold one over 16,383.
+            let cause = if number > LARGEST_NUMBER { Cause::Scope } else { cause };
             self.note(place, cause, format!("a public name is 0 to {LARGEST_NAME}, found {number} (rule 5)"));
         }
         Ok(number)
@@ -57,7 +58,7 @@ impl Parser {
 
     fn number_as_name(&mut self) -> Read<Tree> {
         let place = self.place();
-        let number = self.public_name()?;
+        let number = self.public_name(Cause::Rule(5))?;
         if let Some(word) = self.scope.word_of(number) {
             let message = format!("the public name {number} is `{word}`; should it be the same here?");
             self.note(place, Cause::Doubt, message);
@@ -97,7 +98,8 @@ impl Parser {
             _ if is_abbreviation(word) => format!("`{word}` is no term: abbreviations are processes or formulas"),
             _ => format!("unknown word `{word}`: it is no public name, and nothing around binds it (rule 6)"),
         };
-        if !self.faults.iter().any(|fault| fault.message == message) {
+        let known = message.split(':').next().unwrap_or_default();
+        if !self.faults.iter().any(|fault| fault.message.starts_with(known)) {
             self.note(place, Cause::Scope, message);
         }
         self.leaf(Kind::Name, place, 0)
