@@ -78,8 +78,8 @@ fn the_second_checker_gives_the_answer_of_each_example() {
     }
 }
 
-/// Good slices are printed as a text that has no fault and nothing doubtful, and that encodes to the same bytes. The
-/// slices of one finding may be of three: each good one is printed.
+/// Good slices are printed as a text that has no fault and nothing doubtful, and that encodes to the same bytes. Each is
+/// printed by itself, since the others of its finding may be refused.
 #[test]
 fn what_is_printed_encodes_to_the_same_bytes() {
     let mut good = [0; 2];

@@ -1,6 +1,6 @@
 //! What the four numbers of an answer mean, in a sentence and in a few words.
 
-use crate::refusals::{self, rule, slice};
+use crate::refusals::{self, slice};
 use library::Answer;
 use notation::folder::Loaded;
 
@@ -28,7 +28,7 @@ fn meaning(answer: Answer, loaded: &Loaded) -> String {
             let told = refusals::told(loaded, answer);
             format!("Refused by rule {result}, at byte {place} of {}: {told}.", slice(answer))
         }
-        9 => format!("Refused by rule 9: {}.", rule(result)),
+        9 => "Refused by rule 9: the work buffer is too short.".to_string(),
         10 => format!("Not settled: judging takes more visits than the budget of {count}."),
         11 => {
             "Not settled: a visit met a limit, too many threads, private names or nodes for one state, or too large a \

@@ -3,7 +3,7 @@
 use library::Answer;
 use notation::decoding::{self, Refusal};
 use notation::folder::Loaded;
-use notation::Finding;
+use notation::{rules, Finding};
 
 /// The slices, by what they hold.
 pub fn slice(answer: Answer) -> &'static str {
@@ -26,10 +26,7 @@ pub fn told(loaded: &Loaded, answer: Answer) -> String {
 /// The rule that a slice breaks; of the limits on nesting, the one that is met.
 pub fn in_words(slices: &[Vec<u8>; 3], answer: Answer) -> String {
     let refusal = slices.get(index(answer)).and_then(|bytes| refusal(bytes, answer));
-    match refusal {
-        Some(refusal) if refusal.rule == 7 => format!("{}: {}", rule(7), refusal.what),
-        _ => rule(answer.result).to_string(),
-    }
+    refusal.map_or(rules::in_words(answer.result).to_string(), |refusal| refusal.in_words())
 }
 
 fn index(answer: Answer) -> usize {
@@ -51,20 +48,5 @@ pub fn place(text: &Finding, answer: Answer) -> Option<String> {
     match &node.within {
         None => Some(node.place.to_string()),
         Some(used) => Some(format!("{} (in `{}`, used at {})", node.place, used.word, used.place)),
-    }
-}
-
-/// What is wrong with a slice, by the number of the rule.
-pub fn rule(number: u32) -> &'static str {
-    match number {
-        1 => "it has more than 4,096 bytes",
-        2 => "the bytes end early",
-        3 => "a number is not in its one form",
-        4 => "no such kind is listed",
-        5 => "a public name is over 255",
-        6 => "a variable or an alias is not in scope",
-        7 => "it is nested too deep",
-        8 => "bytes are left over",
-        _ => "the work buffer is too short",
     }
 }

@@ -31,7 +31,7 @@ pub fn run(task: &Task, mend: &str, out: &mut dyn Write) -> io::Result<Summary> 
     let mut summary = Summary::default();
     for folder in &task.folders {
         let judged = judge(folder, task.budget, mend);
-        beside(&judged, task.form);
+        beside(&judged, shape);
         let judged = judged.ok();
         let agreed = tell(task, shape, folder, judged.as_ref(), out)?;
         let misstated = judged.as_ref().is_some_and(|judged| is_misstated(folder, judged, task.budget));
@@ -66,12 +66,15 @@ fn outcome(judged: Option<&Judged>) -> Outcome {
     }
 }
 
-/// What is said before the answer: notes and warnings, or why there is none. Who asks for numbers alone is not warned.
-fn beside(judged: &Result<Judged, Vec<String>>, form: Form) {
+/// What is said before the answer, or why there is none. Who asks for numbers alone is not warned; and where the answer
+/// has a sentence, that tells the one place where a rule is broken.
+fn beside(judged: &Result<Judged, Vec<String>>, shape: Shape) {
     match judged {
-        Ok(judged) => {
-            let warnings = judged.loaded.warnings.iter().filter(|_| form != Form::Quiet);
-            judged.loaded.notes.iter().chain(warnings).for_each(|note| say(note));
+        Ok(Judged { loaded, .. }) => {
+            let in_sentence = matches!(shape, Shape::Whole | Shape::Chapter) && loaded.faults.len() == 1;
+            let faults = loaded.faults.iter().filter(|_| !in_sentence);
+            let warnings = loaded.warnings.iter().filter(|_| shape != Shape::Numbers);
+            loaded.notes.iter().chain(faults).chain(warnings).for_each(|note| say(note));
         }
         Err(reasons) => reasons.iter().for_each(|reason| say(reason)),
     }

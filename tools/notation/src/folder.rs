@@ -24,8 +24,10 @@ pub struct Loaded {
     pub slices: [Vec<u8>; 3],
     /// Where the finding is written in words.
     pub text: Option<Finding>,
-    /// What is to be said beside the answer: rules that are broken in several places, files that are missing.
+    /// What is to be said beside the answer: files that are missing.
     pub notes: Lines,
+    /// Where the text breaks rules of the reader.
+    pub faults: Lines,
     /// What is doubtful in the text.
     pub warnings: Lines,
 }
@@ -115,10 +117,9 @@ fn load_text(folder: &Path, mend: &str, reading: Reading) -> Result<Loaded, Line
         let mended = format!("{first}`{mend} {}` writes the files of bytes anew", quoted(folder));
         return Err([faults, old, vec![mended]].concat());
     }
-    // Of several places where a rule is broken the answer tells the first.
-    let notes = if faults.len() > 1 { faults } else { Vec::new() };
     let slices = finding.slices.clone().map(|slice| slice.bytes);
-    Ok(Loaded { slices, text: Some(finding), notes, warnings: lines(folder, "warning: ", &reading.warnings) })
+    let warnings = lines(folder, "warning: ", &reading.warnings);
+    Ok(Loaded { slices, text: Some(finding), notes: Vec::new(), faults, warnings })
 }
 
 /// The files of bytes that are there and differ from the text.
@@ -143,7 +144,8 @@ fn load_bytes(folder: &Path) -> Result<Loaded, Lines> {
     let missing = FILES.iter().zip(&found).filter(|(_, bytes)| bytes.is_none());
     let notes = missing.map(|(file, _)| format!("{} is missing, and counts as empty", folder.join(file).display()));
     let notes = notes.collect();
-    Ok(Loaded { slices: found.map(Option::unwrap_or_default), text: None, notes, warnings: Vec::new() })
+    let slices = found.map(Option::unwrap_or_default);
+    Ok(Loaded { slices, text: None, notes, faults: Vec::new(), warnings: Vec::new() })
 }
 
 /// The bytes of a slice, at most one more than it may have or is compared with; none if there is no such file.

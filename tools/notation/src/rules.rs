@@ -1,4 +1,5 @@
-//! The limits on a tree, told by the places of its text (document 01, "Turned back for the input", 1 and 7).
+//! The rules of the reader in words, and the limits on a tree, told by the places of its text (document 01, "Turned back
+//! for the input", 1 and 7).
 
 use crate::fault::{Cause, Fault, Place, Within};
 use crate::slice::Slice;
@@ -10,6 +11,21 @@ pub const PROCESS_NODES: usize = 64;
 pub const FORMULA_NODES: usize = 48;
 pub const STEP_FORMULAS: usize = 16;
 pub const VARIABLES: usize = 12;
+
+/// What is wrong with a slice, by the number of the rule that it breaks.
+pub fn in_words(rule: u32) -> &'static str {
+    match rule {
+        1 => "it has more than 4,096 bytes",
+        2 => "the bytes end early",
+        3 => "a number is not in its one form",
+        4 => "no such kind is listed",
+        5 => "a public name is over 255",
+        6 => "a variable or an alias is not in scope",
+        7 => "it is nested too deep",
+        8 => "bytes are left over",
+        _ => "there is no such rule",
+    }
+}
 
 /// What rule 7 says of a node that is one too many, in the order in which the limits are asked for.
 pub const TOO_DEEP: [&str; 5] = [

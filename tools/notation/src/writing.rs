@@ -13,16 +13,19 @@ use std::time::{Duration, Instant};
 const PATIENCE: Duration = Duration::from_secs(10);
 
 /// Two programs that write in one folder would mix their files: the second waits until the first is done. Where there is
-/// no text there is nothing to write, and nothing to wait for.
+/// no text that can be read there is nothing to write, and nothing to wait for; a pipe would never open.
 pub fn lock(folder: &Path) -> Result<Option<File>, Lines> {
-    let Ok(text) = File::open(folder.join("finding.txt")) else { return Ok(None) };
+    let path = folder.join("finding.txt");
+    let is_file = fs::metadata(&path).is_ok_and(|data| data.is_file());
+    let text = if is_file { File::open(&path).ok() } else { None };
+    let Some(text) = text else { return Ok(None) };
     let start = Instant::now();
     loop {
         match text.try_lock() {
             Ok(()) => return Ok(Some(text)),
             Err(TryLockError::WouldBlock) if start.elapsed() < PATIENCE => sleep(Duration::from_millis(20)),
             Err(TryLockError::WouldBlock) => {
-                return Err(told(&folder.join("finding.txt"), "another program has a lock on it"));
+                return Err(told(&path, "another program has a lock on it"));
             }
             // A place without locks has nobody who waits for one.
             Err(TryLockError::Error(_)) => return Ok(Some(text)),

@@ -273,13 +273,13 @@ fn what_breaks_a_rule_is_loaded() {
     let path = folder("rule", &format!("first {}nil second nil formula true", "repl ".repeat(64)));
     let loaded = load(&path, "encode").expect("its bytes");
     assert_eq!(loaded.slices[0].len(), 65);
-    assert_eq!(loaded.notes, Vec::<String>::new(), "the answer tells the one place");
-    let path = folder("rules", &format!("first {0}nil second {0}nil formula true", "repl ".repeat(64)));
-    let notes = load(&path, "encode").expect("its bytes").notes;
     assert!(
-        notes.len() == 2 && notes[0].contains("line 1, column 327: nested too deep: 65 process nodes"),
-        "{notes:?}"
+        loaded.faults.len() == 1 && loaded.faults[0].contains("column 327: nested too deep"),
+        "{:?}",
+        loaded.faults
     );
+    let path = folder("rules", &format!("first {0}nil second {0}nil formula true", "repl ".repeat(64)));
+    assert_eq!(load(&path, "encode").expect("its bytes").faults.len(), 2);
     fs::write(path.join("first.bin"), [0]).expect("an old slice");
     let old = load(&path, "encode").map(|_| ()).expect_err("an old slice");
     assert!(old.len() == 4 && old[3].starts_with("mend the text first; then `encode "), "{old:?}");

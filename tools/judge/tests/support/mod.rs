@@ -13,7 +13,7 @@ pub fn written(text: &str) -> Loaded {
     let reading = notation::reading(text);
     let finding = reading.finding.unwrap_or_else(|| panic!("{:?}, in\n{text}", reading.faults));
     let slices = finding.slices.clone().map(|slice| slice.bytes);
-    Loaded { slices, text: Some(finding), notes: Vec::new(), warnings: Vec::new() }
+    Loaded { slices, text: Some(finding), notes: Vec::new(), faults: Vec::new(), warnings: Vec::new() }
 }
 
 /// The same finding as bytes alone.
@@ -22,7 +22,7 @@ pub fn bytes(text: &str) -> Loaded {
 }
 
 pub fn of_slices(slices: [Vec<u8>; 3]) -> Loaded {
-    Loaded { slices, text: None, notes: Vec::new(), warnings: Vec::new() }
+    Loaded { slices, text: None, notes: Vec::new(), faults: Vec::new(), warnings: Vec::new() }
 }
 
 /// The library's answer.

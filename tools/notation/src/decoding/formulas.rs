@@ -21,8 +21,8 @@ pub fn outermost(bytes: &mut Bytes) -> Decoded<Formula> {
 fn formula(bytes: &mut Bytes, around: Around) -> Decoded<Formula> {
     let kind = bytes.kind(6)?;
     let is_step = kind.value >= 3;
-    kind.unless(around.nodes == FORMULA_NODES, 7, TOO_DEEP[3])?;
-    kind.unless(is_step && around.steps == STEP_FORMULAS, 7, TOO_DEEP[4])?;
+    kind.within(around.nodes == FORMULA_NODES, TOO_DEEP[3])?;
+    kind.within(is_step && around.steps == STEP_FORMULAS, TOO_DEEP[4])?;
     let aliases = around.outputs;
     let inside = Around {
         nodes: around.nodes + 1,

@@ -19,8 +19,8 @@ pub fn model(bytes: &mut Bytes) -> Decoded<Process> {
 fn process(bytes: &mut Bytes, spot: Spot) -> Decoded<Process> {
     let kind = bytes.kind(8)?;
     let binds = matches!(kind.value, 1 | 3 | 5);
-    kind.unless(spot.around == PROCESS_NODES, 7, TOO_DEEP[1])?;
-    kind.unless(binds && spot.scope == VARIABLES, 7, TOO_DEEP[2])?;
+    kind.within(spot.around == PROCESS_NODES, TOO_DEEP[1])?;
+    kind.within(binds && spot.scope == VARIABLES, TOO_DEEP[2])?;
     let scope = spot.scope;
     let inside = Spot { around: spot.around + 1, scope: scope + usize::from(binds) };
     Ok(match kind.value {

@@ -11,7 +11,7 @@ pub fn term(bytes: &mut Bytes, scope: usize) -> Decoded<Term> {
 
 /// A term with so many term nodes around it.
 fn below(bytes: &mut Bytes, scope: usize, around: usize) -> Decoded<Term> {
-    let kind = bytes.kind(8)?.unless(around == TERM_NODES, 7, TOO_DEEP[0])?;
+    let kind = bytes.kind(8)?.within(around == TERM_NODES, TOO_DEEP[0])?;
     let mut part = || below(bytes, scope, around + 1).map(Box::new);
     Ok(match kind.value {
         0 => name(bytes)?,
@@ -27,12 +27,12 @@ fn below(bytes: &mut Bytes, scope: usize, around: usize) -> Decoded<Term> {
 
 fn name(bytes: &mut Bytes) -> Decoded<Term> {
     let number = bytes.number()?;
-    Ok(Term::Name(number.unless(number.value > LARGEST_NAME, 5, "a public name is over 255")?.value))
+    Ok(Term::Name(number.unless(number.value > LARGEST_NAME, 5)?.value))
 }
 
 fn variable(bytes: &mut Bytes, scope: usize) -> Decoded<Term> {
     let number = bytes.number()?;
     let index = usize::from(number.value);
-    number.unless(index >= scope, 6, "a variable or an alias is not in scope")?;
+    number.unless(index >= scope, 6)?;
     Ok(Term::Variable(index))
 }

@@ -58,7 +58,7 @@ pub(super) fn foreign(token: &Token) -> Option<String> {
     Some(hint.to_string())
 }
 
-/// Leaves out comments as other notations write them, and gives the places of the first of each line.
+/// Leaves out comments as other notations write them, and gives their places.
 pub(super) fn without_comments(lexemes: Vec<Lexeme>) -> (Vec<Lexeme>, Vec<Place>) {
     let (mut kept, mut places) = (Vec::new(), Vec::new());
     let mut rest = lexemes.into_iter().peekable();

@@ -44,7 +44,7 @@ impl Parser {
         })
     }
 
-    /// A public name's number. One over the limit is noted, by the cause that it is there.
+    /// A public name's number. One over the limit is noted with this cause.
     pub(super) fn public_name(&mut self, cause: Cause) -> Read<usize> {
         let place = self.place();
         let number = self.number()? as usize;
