@@ -151,3 +151,26 @@ fn replace(places: &[Place]) -> Written {
     }
     Ok(())
 }
+
+#[cfg(test)]
+mod tests {
+    use super::*;
+
+    /// Where the third file cannot be put in its place, the first is as it was, and the second is gone again.
+    #[test]
+    fn what_has_gone_to_its_place_is_put_back() {
+        let folder = std::env::temp_dir().join(format!("encode-{}", std::process::id()));
+        fs::create_dir_all(folder.join("third/full")).expect("a folder that no file can replace");
+        fs::write(folder.join("first"), "old").expect("a file");
+        let place = |name: &str, exists| Place { path: folder.join(name), exists, bytes: b"new" };
+        let places = [place("first", true), place("second", false), place("third", false)];
+        let prepared: Written = places.iter().try_for_each(Place::prepare);
+        prepared.expect("all are written beside");
+        let (failed, _) = replace(&places).expect_err("the third is in the way");
+        places.iter().for_each(Place::tidy);
+        let left = fs::read_dir(&folder).expect("the folder").count();
+        let first = fs::read_to_string(folder.join("first")).ok();
+        fs::remove_dir_all(&folder).expect("nothing is left behind");
+        assert_eq!((failed, left, first.as_deref()), (folder.join("third"), 2, Some("old")));
+    }
+}

@@ -7,6 +7,8 @@ use std::os::unix::ffi::OsStrExt;
 use std::os::unix::fs::{symlink, PermissionsExt};
 use std::path::{Path, PathBuf};
 use std::process::{Command, Output};
+use std::thread::sleep;
+use std::time::Duration;
 
 const FINDING: &str = "# It shows nothing.\nnames c = 0\nfirst nil\nsecond out(c, c)\nformula not <out c _> true\n";
 
@@ -191,6 +193,21 @@ fn links_to_one_file() {
         );
         assert_eq!(files(&path), before, "{name}");
     }
+}
+
+/// While another program has a lock on the text, nothing is read or written.
+#[test]
+fn waits_for_its_turn() {
+    let path = folder("turn", FINDING);
+    let text = fs::File::open(path.join("finding.txt")).expect("the text");
+    text.lock().expect("a lock");
+    let mut waiting = Command::new(env!("CARGO_BIN_EXE_encode")).arg(&path).spawn().expect("encode runs");
+    sleep(Duration::from_millis(300));
+    assert!(waiting.try_wait().expect("its state").is_none() && !path.join("first.bin").exists());
+    fs::write(path.join("finding.txt"), "first repl nil second nil formula true").expect("another finding");
+    text.unlock().expect("no lock any more");
+    assert!(waiting.wait().expect("its end").success());
+    assert_eq!(fs::read(path.join("first.bin")).ok(), Some(vec![7, 0]), "the text as it is when its turn comes");
 }
 
 /// What an interrupted call has left beside the files is gone after the next, and leads it nowhere.

@@ -83,6 +83,16 @@ fn bytes_of_a_slice() {
     assert_eq!(broken(&text), Vec::<String>::new());
 }
 
+/// The border itself: 4,096 bytes are good, and one more is not.
+#[test]
+fn one_byte_too_many() {
+    let half = (0..11).fold("nil".to_string(), |text, _| format!("({text} | {text})"));
+    let model = |prefix: &str| broken(&format!("first {prefix}{half} {TRUE}"));
+    assert_eq!(model("repl "), Vec::<String>::new());
+    let said = model("repl repl ");
+    assert!(said.len() == 1 && said[0].contains("the first model takes 4097 bytes, and 4096 are the most"), "{said:?}");
+}
+
 /// The byte that is one too many belongs to the node that is told.
 #[test]
 fn the_place_of_a_byte_too_many() {
