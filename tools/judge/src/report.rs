@@ -21,7 +21,7 @@ enum Shape {
     /// One line for each folder.
     Line,
     /// The same as the whole, below the name of the folder.
-    Chapter,
+    Titled,
 }
 
 /// Judges every folder, prints the answers, and says beside them what is to be said. `mend` is the command that writes
@@ -37,7 +37,7 @@ pub fn run(task: &Task, mend: &str, out: &mut dyn Write) -> io::Result<Summary> 
         let misstated = judged.as_ref().is_some_and(|judged| is_misstated(folder, judged, task.budget));
         summary.add(if agreed { outcome(judged.as_ref()) } else { Outcome::Without }, misstated);
     }
-    if matches!(shape, Shape::Line | Shape::Chapter) {
+    if matches!(shape, Shape::Line | Shape::Titled) {
         writeln!(out, "{summary}")?;
     }
     out.flush()?;
@@ -49,7 +49,7 @@ fn shape(task: &Task) -> Shape {
         (Form::Quiet, _) => Shape::Numbers,
         (_, 1) => Shape::Whole,
         (Form::Plain, _) => Shape::Line,
-        (Form::Why, _) => Shape::Chapter,
+        (Form::Why, _) => Shape::Titled,
     }
 }
 
@@ -71,7 +71,7 @@ fn outcome(judged: Option<&Judged>) -> Outcome {
 fn beside(judged: &Result<Judged, Vec<String>>, shape: Shape) {
     match judged {
         Ok(Judged { loaded, .. }) => {
-            let in_sentence = matches!(shape, Shape::Whole | Shape::Chapter) && loaded.faults.len() == 1;
+            let in_sentence = matches!(shape, Shape::Whole | Shape::Titled) && loaded.faults.len() == 1;
             let faults = loaded.faults.iter().filter(|_| !in_sentence);
             let warnings = loaded.warnings.iter().filter(|_| shape != Shape::Numbers);
             loaded.notes.iter().chain(faults).chain(warnings).for_each(|note| say(note));
@@ -105,7 +105,7 @@ fn tell(task: &Task, shape: Shape, folder: &Path, judged: Option<&Judged>, out: 
         (Shape::Whole, None) => {}
         (Shape::Line, Some(judged)) => writeln!(out, "{}: {}, {}", name(folder), judged.answer, words(judged.answer))?,
         (Shape::Line, None) => writeln!(out, "{}: no answer", name(folder))?,
-        (Shape::Chapter, judged) => return chapter(task, folder, judged, out),
+        (Shape::Titled, judged) => return titled(task, folder, judged, out),
     }
     Ok(true)
 }
@@ -133,7 +133,7 @@ pub fn tell_why(folder: &Path, explanation: &Explanation, out: &mut dyn Write) -
     }
 }
 
-fn chapter(task: &Task, folder: &Path, judged: Option<&Judged>, out: &mut dyn Write) -> io::Result<bool> {
+fn titled(task: &Task, folder: &Path, judged: Option<&Judged>, out: &mut dyn Write) -> io::Result<bool> {
     writeln!(out, "{}:", name(folder))?;
     let agreed = match judged {
         Some(judged) => whole(task, folder, judged, out)?,
