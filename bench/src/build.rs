@@ -14,6 +14,10 @@ pub fn pair(left: Term, right: Term) -> Term {
     Term::Pair(Box::new(left), Box::new(right))
 }
 
+pub fn fst(pair: Term) -> Term {
+    Term::Fst(Box::new(pair))
+}
+
 /// A message of 2^(depth + 1) - 1 nodes.
 pub fn tree(depth: u32) -> Term {
     if depth == 0 {
@@ -53,6 +57,18 @@ pub fn par(left: Process, right: Process) -> Process {
 /// All of them in parallel, in order.
 pub fn all(processes: Vec<Process>) -> Process {
     processes.into_iter().rev().reduce(|right, left| par(left, right)).unwrap_or(Process::Nil)
+}
+
+/// The same, nested as a balanced tree.
+pub fn balanced(mut parts: Vec<Process>) -> Process {
+    match parts.len() {
+        0 => nil(),
+        1 => parts.remove(0),
+        n => {
+            let right = parts.split_off(n / 2);
+            par(balanced(parts), balanced(right))
+        }
+    }
 }
 
 pub fn equal(left: Term, right: Term) -> Formula {

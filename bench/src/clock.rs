@@ -1,20 +1,21 @@
-//! Time for one call, of the library and of the second checker on the same finding.
+//! Time for one call, of the library and of the second checker on the same findings; and of an earlier library, if one is given.
 
+use crate::before::{self, Judge};
 use crate::findings::Finding;
 use comparison::library;
 use second_checker::verdict::{self, Answer};
 use std::time::{Duration, Instant};
 
-type Judge = fn(&[u8], &[u8], &[u8], &mut [u8], u32) -> Answer;
-
 /// How often each is timed, in turn, and for how long each time; the shortest time counts.
-const ROUNDS: usize = 5;
+const ROUNDS: usize = if before::JUDGE.is_some() { 15 } else { 5 };
 const ROUND: Duration = Duration::from_millis(60);
 
+/// What a call takes in the mean over the findings, and how many visits they have together.
 pub struct Times {
     pub visits: u32,
     pub library: Duration,
     pub second: Duration,
+    pub before: Option<Duration>,
 }
 
 impl Times {
@@ -23,21 +24,42 @@ impl Times {
         self.second.as_secs_f64() / self.library.as_secs_f64()
     }
 
+    /// How many times as fast it is as the earlier one, in a column of its own if there is one.
+    pub fn against_before(&self) -> String {
+        self.before
+            .map_or(String::new(), |before| format!(" {:>7.3}", before.as_secs_f64() / self.library.as_secs_f64()))
+    }
+
     pub fn per_visit(&self, call: Duration) -> f64 {
         call.as_secs_f64() * 1e9 / f64::from(self.visits.max(1))
     }
 }
 
-/// Both on one finding. They must agree: a fast wrong answer is none.
+/// All on one finding.
 pub fn time(finding: &Finding) -> Times {
+    time_all(std::slice::from_ref(finding))
+}
+
+/// All on the same findings. They must agree: a fast wrong answer is none.
+pub fn time_all(findings: &[Finding]) -> Times {
     let mut work = vec![0; 65_536];
-    let answer = call(library::verdict, finding, &mut work);
-    let other = call(verdict::verdict, finding, &mut work);
-    assert_eq!(answer, other, "{}: the two do not agree", finding.title);
-    let mut times = Times { visits: answer.count, library: Duration::MAX, second: Duration::MAX };
+    let mut visits = 0;
+    for finding in findings {
+        let answer = call(library::verdict, finding, &mut work);
+        let others = [verdict::verdict as Judge].into_iter().chain(before::JUDGE);
+        for other in others {
+            assert_eq!(answer, call(other, finding, &mut work), "{}: they do not agree", finding.title);
+        }
+        visits += answer.count;
+    }
+    let mut times =
+        Times { visits, library: Duration::MAX, second: Duration::MAX, before: before::JUDGE.map(|_| Duration::MAX) };
     for _ in 0..ROUNDS {
-        times.library = times.library.min(round(library::verdict, finding, &mut work));
-        times.second = times.second.min(round(verdict::verdict, finding, &mut work));
+        times.library = times.library.min(round(library::verdict, findings, &mut work));
+        if let (Some(before), Some(judge)) = (&mut times.before, before::JUDGE) {
+            *before = round(judge, findings, &mut work).min(*before);
+        }
+        times.second = times.second.min(round(verdict::verdict, findings, &mut work));
     }
     times
 }
@@ -46,13 +68,15 @@ fn call(judge: Judge, finding: &Finding, work: &mut [u8]) -> Answer {
     judge(&finding.first, &finding.second, &finding.formula, work, finding.budget)
 }
 
-/// The mean time of a call over one round.
-fn round(judge: Judge, finding: &Finding, work: &mut [u8]) -> Duration {
+/// The mean time of a call over one round, in which every finding is judged equally often.
+fn round(judge: Judge, findings: &[Finding], work: &mut [u8]) -> Duration {
     let start = Instant::now();
     let mut calls = 0;
     while calls == 0 || start.elapsed() < ROUND {
-        std::hint::black_box(call(judge, finding, work));
-        calls += 1;
+        for finding in findings {
+            std::hint::black_box(call(judge, finding, work));
+            calls += 1;
+        }
     }
     start.elapsed() / calls
 }

@@ -131,17 +131,6 @@ fn flat(chain: Process) -> Process {
     balanced(parts)
 }
 
-fn balanced(mut parts: Vec<Process>) -> Process {
-    match parts.len() {
-        0 => nil(),
-        1 => parts.remove(0),
-        n => {
-            let right = parts.split_off(n / 2);
-            par(balanced(parts), balanced(right))
-        }
-    }
-}
-
 /// Two models of 4,096 bytes and a formula that ends early: all that can be done is to read.
 pub fn reading() -> Finding {
     let outputs = vec![output(name(2), name(3), nil()); 585];
