@@ -40,6 +40,9 @@ fn compare(findings: u64, seeds: &[u64]) -> ExitCode {
     if !under_floor.is_empty() {
         println!("under their floor: results {under_floor:?}");
     }
+    if !run.shares.enough_long() {
+        println!("under their floor: numbers of two bytes");
+    }
     if run.passed() {
         ExitCode::SUCCESS
     } else {

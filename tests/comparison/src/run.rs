@@ -12,9 +12,9 @@ pub struct Run {
 }
 
 impl Run {
-    /// Whether there was no difference, and each result came often enough.
+    /// Whether there was no difference, and each result and numbers of two bytes came often enough.
     pub fn passed(&self) -> bool {
-        self.differences == 0 && self.shares.under_floor().is_empty()
+        self.differences == 0 && self.shares.under_floor().is_empty() && self.shares.enough_long()
     }
 }
 
@@ -25,11 +25,12 @@ pub fn run(findings: u64, seeds: &[u64], tested: Checker, mut report: impl FnMut
     for index in 0..findings {
         let seed = seeds[(index % seeds.len() as u64) as usize];
         let number = index / seeds.len() as u64;
-        match compare(seed, number, &generator::finding(seed, number), tested) {
-            Ok(answer) => run.shares.add(answer.result),
+        let finding = generator::finding(seed, number);
+        match compare(seed, number, &finding, tested) {
+            Ok(answer) => run.shares.add(&finding, answer.result),
             Err(difference) => {
                 run.differences += 1;
-                run.shares.add(difference.expected.result);
+                run.shares.add(&finding, difference.expected.result);
                 report(&difference);
             }
         }

@@ -2,7 +2,7 @@
 
 use comparison::compare::{compare, Checker, Difference};
 use comparison::generator::{self, Finding};
-use comparison::run::run;
+use comparison::run::{run, Run};
 use comparison::shares::{Shares, FLOORS};
 use second_checker::verdict::{verdict, Answer};
 use std::sync::OnceLock;
@@ -119,8 +119,36 @@ fn a_result_that_never_comes_is_under_its_floor() {
     for missing in 0..14 {
         let mut shares = Shares::default();
         let others = (0..14).filter(|result| *result != missing);
-        others.for_each(|result| (0..10).for_each(|_| shares.add(result)));
+        others.for_each(|result| (0..10).for_each(|_| shares.add(&findings()[0], result)));
         assert!(shares.under_floor().contains(&(missing as usize)));
     }
     assert!(FLOORS.iter().all(|floor| *floor > 0.0));
+}
+
+/// A finding with one public name, whose number is given.
+fn of_name(number: &[u8]) -> Finding {
+    let first = [&[2, 0], number, &[0], number, &[0]].concat();
+    Finding { first, second: vec![0], formula: vec![0, 0, 127, 0, 127], ..findings()[0].clone() }
+}
+
+/// A run in which each result came often enough, always on the same finding.
+fn run_on(finding: &Finding) -> Run {
+    let mut run = Run::default();
+    let many = |result| if (1..=9).contains(&result) { 5 } else { 20 };
+    (0..14).for_each(|result| (0..many(result)).for_each(|_| run.shares.add(finding, result)));
+    run
+}
+
+#[test]
+fn a_run_without_numbers_of_two_bytes_does_not_pass() {
+    let [short, long] = [run_on(&of_name(&[127])), run_on(&of_name(&[128, 1]))];
+    assert!(short.shares.under_floor().is_empty() && !short.shares.enough_long() && !short.passed());
+    assert!(long.shares.enough_long() && long.passed());
+}
+
+#[test]
+fn numbers_of_two_bytes_count_only_where_a_finding_is_judged() {
+    let mut refused = Shares::default();
+    (0..100).for_each(|_| refused.add(&of_name(&[128, 1]), 3));
+    assert!(!refused.enough_long());
 }

@@ -8,6 +8,7 @@ mod knowledge;
 mod models;
 mod mutation;
 mod padding;
+mod renaming;
 mod terms;
 mod well_formed;
 
@@ -36,6 +37,11 @@ impl Finding {
         let mut work = pattern.repeat(self.work_length / 251 + 1);
         work.truncate(self.work_length);
         work
+    }
+
+    /// Whether a number of two bytes stands in a slice, all of them being well-formed: no other byte is over 127.
+    pub fn has_long_number(&self) -> bool {
+        [&self.first, &self.second, &self.formula].into_iter().any(|slice| slice.iter().any(|byte| *byte > 127))
     }
 }
 

@@ -1,6 +1,7 @@
 //! Findings whose slices are well-formed, with budgets on both sides of their count.
 
 use super::borders::bordered;
+use super::renaming::Renaming;
 use super::{formulas, models, mutation, padding, Finding};
 use crate::encoding;
 use crate::random::Random;
@@ -25,6 +26,9 @@ pub fn finding(random: &mut Random) -> Finding {
         3 => followed(random, models::nested),
         _ => at_borders(random),
     };
+    if random.chance(40) {
+        rename(random, &mut trees);
+    }
     if random.chance(5) {
         trees = padded(random, trees);
     }
@@ -38,6 +42,14 @@ pub fn finding(random: &mut Random) -> Finding {
         fill: random.below(251),
         budget,
     }
+}
+
+/// The same finding over other public names.
+fn rename(random: &mut Random, (first, second, formula): &mut Trees) {
+    let renaming = Renaming::new(random);
+    renaming.process(first);
+    renaming.process(second);
+    renaming.formula(formula);
 }
 
 /// One of the models of document 003.
