@@ -3,6 +3,7 @@
 use crate::layout;
 use crate::layout::Layout;
 use decode_number::number;
+use decode_number::number::Spelling;
 ghost use Prim.Native.Nat.{_≤_};
 ghost use Rattle.decode_layout.specs.Ends.{NumbersEnd, TermEnd, TermsEnd};
 
@@ -15,13 +16,8 @@ fn numbers(s: &[u8], at: usize, count: usize) -> usize
     if count == 0 {
         return at;
     }
-    if s.len() <= at {
-        return at;
-    }
-    if number::wide(s[at]) < 128 {
-        return at + 1;
-    }
-    at + 2
+    let Spelling(_, end) = number::spelled(s, at);
+    end
 }
 
 // The end of so many terms in a row.

@@ -1,3 +1,4 @@
 pub mod Answer
+pub mod Spelling
 pub mod Bounded
 pub mod Theorems

@@ -1,11 +1,18 @@
--- The theorems on answers ("Turned back for the input"). Their proofs are in proofs/Theorems.antt, under the same names with a
--- small first letter.
+-- The theorems on numbers ("Bytes", first paragraph) and answers ("Turned back for the input"). Their proofs are in
+-- proofs/Theorems.antt, under the same names with a small first letter.
 use mathlib.Core.Path.{_≡_}
 use mathlib.Core.List.{List}
 use Prim.Native.Nat.{ℕ}
 use Rattle.decode_number.specs.declared.answer.Answer.{Answer}
 use Rattle.decode_number.specs.declared.number.Numeral.{Numeral}
+use Rattle.meaning.specs.Bytes.WellFormed.{Bytes}
+use Rattle.meaning.specs.Bytes.Number.{number}
+use Rattle.decode_number.specs.Spelling.{spelledValue, spelledEnd, oneForm}
 use Rattle.decode_number.specs.Answer.{answer, numeral}
+
+-- In every slice of bytes the number at a position is what is spelled there, if that is in the one form.
+abbrev pub NumbersSpelled : Type 0
+NumbersSpelled = (s : List ℕ) → Bytes s → (at : ℕ) → number s at ≡ oneForm s at (spelledValue s at) (spelledEnd s at)
 
 -- A promise leaves one answer only.
 abbrev pub AnswersFixed : Type 0

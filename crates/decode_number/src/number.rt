@@ -1,11 +1,18 @@
-// A number at a position of a slice ("Bytes", first paragraph; 2 and 3).
+// A number at a position of a slice ("Bytes", first paragraph; 2 and 3). How many bytes it has is worked out, and never asked: each test of
+// its bytes goes the same way for all numbers of a well-formed slice.
 use crate::answer::Answer;
 use crate::answer::Refusal;
 ghost use mathlib.Core.Path.{_≡_};
-ghost use Prim.Native.Nat.{_<_};
+ghost use Prim.Native.Nat.{_≤_, _<_};
 ghost use Rattle.meaning.specs.Bytes.Number.{number};
+ghost use Rattle.decode_number.specs.Spelling.{spell, spelledValue, spelledEnd, oneForm};
 ghost use Rattle.decode_number.specs.Answer.{answer, numeral, bounded, extent};
 ghost use Rattle.decode_number.specs.Bounded.{numberBelow};
+
+// How many numbers one byte can hold, and how many two can.
+const ONE_BYTE: usize = 128;
+
+const TWO_BYTES: usize = 16384;
 
 // The number's value and the position after it; or the bytes end early; or it is not in the one form.
 pub enum Numeral {
@@ -22,29 +29,51 @@ pub fn wide(b: u8) -> usize
     b as usize
 }
 
+// What two bytes spell: the first one's low seven bits, and 128 times the second times the first one's top bit.
+fn spell(first: usize, second: usize) -> usize
+    requires { ⌜ (first < 256) × (second < 256) ⌝ }
+    ensures { λ r. ⌜ r ≡ spell first second ⌝ }
+{
+    first % 128 + 128 * second * (first / 128)
+}
+
+// The value of the number that bytes spell, in whatever form, and the position after it.
+pub struct Spelling(pub usize, pub usize);
+
+// The number that the bytes at a position spell. Where they end early, the position after it is that position itself. A number of one
+// byte has that byte for its last, which then counts 0 times.
+pub fn spelled(s: &[u8], at: usize) -> Spelling
+    ensures { λ r. ⌜ r .0 ≡ spelledValue (now (s .entry)) at ⌝ }
+    ensures { λ r. ⌜ r .1 ≡ spelledEnd (now (s .entry)) at ⌝ }
+    ensures { λ r. ⌜ number (now (s .entry)) at ≡ oneForm (now (s .entry)) at (r .0) (r .1) ⌝ }
+{
+    if s.len() <= at {
+        return Spelling(0, at);
+    }
+    let first = wide(s[at]);
+    let place = at + first / 128;
+    if s.len() <= place {
+        return Spelling(spell(first, 0), at);
+    }
+    let last = wide(s[place]);
+    Spelling(spell(first, last), place + 1)
+}
+
 // The number at a position: seven bits to a byte, low bits first, in one byte or two.
 pub fn read(s: &[u8], at: usize) -> Numeral
     ensures { λ r. ⌜ numeral (now (s .entry)) at r ≡ number (now (s .entry)) at ⌝ }
 {
-    if s.len() <= at {
+    let Spelling(value, end) = spelled(s, at);
+    if end <= at {
         return Numeral::Truncated;
     }
-    let low = wide(s[at]);
-    if low < 128 {
-        return Numeral::Value(low, at + 1);
-    }
-    let second = at + 1;
-    if s.len() <= second {
-        return Numeral::Truncated;
-    }
-    let high = wide(s[second]);
-    if high == 0 {
+    if TWO_BYTES <= value {
         return Numeral::Malformed;
     }
-    if 127 < high {
-        return Numeral::Malformed;
+    if end - at - 1 <= value / ONE_BYTE {
+        return Numeral::Value(value, end);
     }
-    Numeral::Value(low - 128 + 128 * high, second + 1)
+    Numeral::Malformed
 }
 
 // A number below a limit and the position after it; or why it is refused, and where.
@@ -54,7 +83,7 @@ pub enum Bounded {
 }
 
 // A number that is refused for this reason unless it is below the limit.
-pub fn below(s: &[u8], at: usize, limit: usize, why: Refusal) -> Bounded
+fn below_any(s: &[u8], at: usize, limit: usize, why: Refusal) -> Bounded
     ensures { λ r. ⌜ bounded r ≡ numberBelow limit why (now (s .entry)) at ⌝ }
 {
     match read(s, at) {
@@ -68,6 +97,31 @@ pub fn below(s: &[u8], at: usize, limit: usize, why: Refusal) -> Bounded
         Numeral::Truncated => Bounded::Refused(Refusal::Truncated, s.len()),
         Numeral::Malformed => Bounded::Refused(Refusal::Malformed, at),
     }
+}
+
+// The same, for a limit below which every number has one byte: any other first byte is refused, for whatever reason.
+fn below_short(s: &[u8], at: usize, limit: usize, why: Refusal) -> Bounded
+    requires { ⌜ limit ≤ 128 ⌝ }
+    ensures { λ r. ⌜ bounded r ≡ numberBelow limit why (now (s .entry)) at ⌝ }
+{
+    if s.len() <= at {
+        return Bounded::Refused(Refusal::Truncated, s.len());
+    }
+    let first = wide(s[at]);
+    if first < limit {
+        return Bounded::Is(first, at + 1);
+    }
+    below_any(s, at, limit, why)
+}
+
+// The same, for every limit.
+pub fn below(s: &[u8], at: usize, limit: usize, why: Refusal) -> Bounded
+    ensures { λ r. ⌜ bounded r ≡ numberBelow limit why (now (s .entry)) at ⌝ }
+{
+    if limit <= ONE_BYTE {
+        return below_short(s, at, limit, why);
+    }
+    below_any(s, at, limit, why)
 }
 
 // The same, where only its end is asked for.

@@ -1,6 +1,6 @@
 // The number of a public name, a variable or an alias, read again ("Bytes").
 use decode_number::number;
-use decode_number::number::Numeral;
+use decode_number::number::Spelling;
 ghost use Prim.Native.Nat.{_<_};
 ghost use Rattle.message_term.specs.Inner.{FieldAt};
 
@@ -12,9 +12,6 @@ pub(crate) fn read(s: &[u8], at: usize) -> Field
     ensures { λ r. ⌜ r .0 < 16384 ⌝ }
     ensures { λ r. ⌜ FieldAt (now (s .entry)) at (r .0) (r .1) ⌝ }
 {
-    match number::read(s, at) {
-        Numeral::Value(n, next) => Field(n % 16384, next),
-        Numeral::Truncated => Field(0, at),
-        Numeral::Malformed => Field(0, at),
-    }
+    let Spelling(n, next) = number::spelled(s, at);
+    Field(n % 16384, next)
 }

@@ -13,9 +13,6 @@ ghost use Rattle.step_offer.specs.Pass.{Differs, NoOffer, Skips, PassesR
 ghost use Rattle.index_process.specs.Index.{ShortModel};
 ghost use Rattle.state_layout.specs.Layout.{RecordsFit};
 
-// The numbers of which one byte is enough.
-const SHORT: usize = 128;
-
 // Where the first record stands that is not passed by, and the position from which on its thread's offers are sought.
 pub(crate) struct Passed {
     pub at: usize,
@@ -34,7 +31,8 @@ pub(crate) fn starting(quest: Quest, from: usize) -> Quest
     }
 }
 
-// Whether the term at a position is a public name, and the channel that is sought another message.
+// Whether the term at a position is a public name, and the channel that is sought another message: no public name, or one whose number has
+// other low seven bits. Public names with the same ones are not told apart here.
 fn differs(s: &[u8], argument: &[u8], at: usize) -> bool
     requires { ⌜ at ≤ 36864 ⌝ }
     ensures { λ r. ⌜ Differs (now (s .entry)) (now (argument .entry)) at r ⌝ }
@@ -45,17 +43,10 @@ fn differs(s: &[u8], argument: &[u8], at: usize) -> bool
     if word::wide(s[at]) != term_kind::NAME {
         return false;
     }
-    let number = word::wide(s[at + 1]);
-    if SHORT <= number {
-        return false;
-    }
     if argument.len() != 2 {
         return true;
     }
-    if word::number(argument, 0) == 2 * number + 16 {
-        return false;
-    }
-    true
+    (2 * word::wide(s[at + 1]) + 16) % 256 != word::wide(argument[0])
 }
 
 // Whether the thread whose process stands at a position surely has no offer that is sought: an output or an input that is not meant, or has

@@ -1,16 +1,18 @@
 -- Terms, processes and formulas as nodes of one shape ("Bytes"), and the end of a number.
-use mathlib.Core.Path.{_≡_, refl, sym, _∙_}
+use mathlib.Core.Path.{_≡_, refl, sym, ap, _∙_}
 use mathlib.Core.List.{List, [], _∷_, _++_, append-assoc, append-nil}
 use Prim.Native.Nat.{ℕ, _+_, _/_, _%_, _≤_, _<_}
 use native.Mathlib.Omega.{arith}
 use lib.Dec.{ltb, ltb→lt}
-use lib.ListN.{length, getD}
+use lib.ListN.{length, getD, length-drop}
 use Rattle.meaning.specs.Messages.Term.{Term, leaf, proj, binary, name, variable, fst, snd, pair, cipher, mac, enc, dec}
 use Rattle.meaning.specs.Bytes.Process.{Prefix, Process, nil, new, act, if, let-in, par, repl}
 use Rattle.meaning.specs.Bytes.Formula.{Label, Formula}
 use Rattle.meaning.specs.Bytes.Encoding.{encodeNumber, encodeTerm, encodeProcess, encodeFormula}
 use Rattle.meaning.specs.Bytes.Standing.{Stands}
 use Rattle.meaning.proofs.Bytes.Reader.{by-test}
+use Rattle.decode_number.specs.Spelling.{spelledEnd}
+use Rattle.decode_number.proofs.Laws.Spelling.{there-end, end-after}
 use Rattle.decode_layout.specs.declared.layout.Layout.{Layout}
 use Rattle.decode_layout.specs.Layout.{fields, parts, layoutOf, termLayouts, processLayouts, formulaLayouts}
 use Rattle.decode_layout.specs.Ends.{row, EndOf, RowEnd}
@@ -79,28 +81,24 @@ unfolding encodeNumber
 by-form {s} {at} {end} {r} n f g =
     by-test (λ xs. Stands s at xs end → r ≡ end) (ltb n 128) (λ t. f (ltb→lt n 128 t)) (λ t. g)
 
+-- It is where its bytes say.
+module _ (s : List ℕ) (at : ℕ) where
+  by-first : {b r : ℕ} → r ≡ spelledEnd s at → b ≡ getD s at 0 → at + b / 128 < length s → r ≡ at + b / 128 + 1
+  by-first h e l = h ∙ sym (there-end s at e l)
+
+  pub spelled-end : {r : ℕ} → r ≡ spelledEnd s at → EndOf encodeNumber s at r
+  spelled-end h = record {
+    same = λ n. by-form n
+        (λ l p. omega (arith, p .size, by-first h (first-byte p) (omega (arith, goes-on p))))
+        (λ p. omega (arith, p .size, by-first h (first-byte p) (omega (arith, length-drop at s, ap length (p .bytes)))));
+  }
+
+-- One number, or none.
 module _ {s : List ℕ} {at : ℕ} where
-  -- By its first byte, or where there is none.
-  pub past-the-end : length s ≤ at → EndOf encodeNumber s at at
-  past-the-end h = record {
-    same = λ n. by-form n (λ l p. omega (arith, goes-on p)) (λ p. omega (arith, goes-on p));
-  }
-
-  pub one-byte : {b : ℕ} → b ≡ getD s at 0 → b < 128 → EndOf encodeNumber s at (at + 1)
-  one-byte e h = record {
-    same = λ n. by-form n (λ l p. omega (arith, p .size)) (λ p. omega (arith, first-byte p));
-  }
-
-  pub two-bytes : {b : ℕ} → b ≡ getD s at 0 → 128 ≤ b → EndOf encodeNumber s at (at + 2)
-  two-bytes e h = record {
-    same = λ n. by-form n (λ l p. omega (arith, first-byte p)) (λ p. omega (arith, p .size));
-  }
-
-  -- One number, or none.
   pub a-number : {count r : ℕ} → (count ≡ 0 → ⊥) → count ≤ 1 → EndOf encodeNumber s at r → RowEnd encodeNumber s at count r
   a-number {count} h l e = let one : count ≡ 1 = omega arith in rw one (row-alone e)
 
   pub no-number : {count : ℕ} → count ≡ 0 → RowEnd encodeNumber s at count at
   no-number z = rw z (done starts (omega arith))
 
-pub ruleset numberEnds = (past-the-end, one-byte, two-bytes, a-number, no-number)
+pub ruleset numberEnds = (spelled-end, a-number, no-number, end-after)

@@ -47,5 +47,3 @@ module _ (s : List ℕ) (at : ℕ) where
       two-bytes z m =
           let same : at + 1 + 1 ≡ at + 2 = omega arith in
           rw (both, le-leb 1 c (omega arith), le-leb c 127 m, same)
-
-pub ruleset numbers = (nothing-there, one-byte, no-second, second-zero, second-large, two-bytes)

@@ -2,10 +2,10 @@
 use mathlib.Core.Path.{_≡_, refl, sym, ap, subst, _∙_}
 use mathlib.Core.Bool.{Bool, true, false, not, _&&_, true≢false}
 use mathlib.Core.List.{List, [], _∷_}
-use Prim.Native.Nat.{ℕ, _+_, _*_, _/_, _%_, _<_}
+use Prim.Native.Nat.{ℕ, _+_, _*_, _/_, _%_}
 use native.Mathlib.Omega.{arith}
-use lib.Dec.{ltb}
-use borrow.Author.Tests.{ne-eqb}
+use lib.Dec.{ltb, eqb}
+use borrow.Author.Tests.{ne-eqb, not-true, eqb-false}
 use lib.ListN.{length, getD}
 use Rattle.meaning.specs.Messages.Term.{Term, Message, leaf, proj, binary, name, variable, public, fst, snd, pair, cipher, mac, enc, dec}
 use Rattle.meaning.specs.Messages.Normal.{same, normal}
@@ -18,8 +18,7 @@ use Rattle.meaning.proofs.Messages.Same.{same-sound}
 use Rattle.meaning.proofs.Test.{is-false}
 use Rattle.decode_layout.proofs.Laws.Standing.{first-byte}
 use Rattle.message_bytes.specs.Encoding.{encodeMessage}
-use Rattle.buffer.specs.Word.{numberAt}
-use Rattle.buffer.proofs.Laws.Word.{word-number, word-end}
+use Rattle.buffer.specs.Word.{encodeWord}
 use Rattle.state_record.specs.Place.{ProcessAt, bodyAt}
 use Rattle.state_record.specs.Record.{processOf, boundOf}
 use Rattle.state_record.proofs.Laws.Process.{kindOf, process-kind, of-output, of-input}
@@ -31,56 +30,65 @@ use Rattle.step_located.specs.Sought.{wanted}
 use Rattle.step_offer.specs.Seek.{Sight, firstOf}
 use Rattle.step_offer.specs.Pass.{Differs, NoOffer}
 
--- A term whose first two bytes are 0 and a number below 128 is the public name with that number.
-short-name : {s : List ℕ} {at end : ℕ} (n : ℕ) → Stands s at (encodeNumber n) end → getD s at 0 < 128 → getD s at 0 ≡ n
+-- The low seven bits of a number are those of its first byte.
+low-bits : {s : List ℕ} {at end : ℕ} (n : ℕ) → Stands s at (encodeNumber n) end → (2 * getD s at 0 + 16) % 256 ≡ (2 * n + 16) % 256
 unfolding encodeNumber
-short-name {s} {at} {end} n p h = by-test (ltb n 128) p
+low-bits {s} {at} {end} n p = by-test (ltb n 128) p
   where
-    by-test : (b : Bool) → Stands s at (elim b [ true ↦ n ∷ [] | false ↦ (128 + n % 128) ∷ (n / 128) ∷ [] ]) end → getD s at 0 ≡ n
-    by-test true q = sym (first-byte q)
-    by-test false q = absurd (omega (arith, first-byte q))
+    by-test : (b : Bool) → Stands s at (elim b [ true ↦ n ∷ [] | false ↦ (128 + n % 128) ∷ (n / 128) ∷ [] ]) end
+        → (2 * getD s at 0 + 16) % 256 ≡ (2 * n + 16) % 256
+    by-test true q = omega (arith, first-byte q)
+    by-test false q = omega (arith, first-byte q)
 
+-- A term whose first byte is 0 is a public name with the low seven bits of the second byte.
 public-name : {s : List ℕ} {at end : ℕ} (C : Term) (ρ : Bound) → Stands s at (encodeTerm C) end → getD s at 0 ≡ 0
-    → getD s (at + 1) 0 < 128 → worked ρ C ≡ leaf (public (getD s (at + 1) 0))
+    → (n : ℕ) × (worked ρ C ≡ leaf (public n)) × ((2 * getD s (at + 1) 0 + 16) % 256 ≡ (2 * n + 16) % 256)
 unfolding encodeTerm normal
-public-name (leaf (name n)) ρ p z h =
+public-name (leaf (name n)) ρ p z =
     let (mid, k, q) = parts (0 ∷ []) (encodeNumber n ∷ []) p in
-    rw (short-name n (rw (k .size) at q) h)
-public-name (leaf (variable n)) ρ p z h = absurd (omega (arith, first-byte p))
-public-name (proj fst t) ρ p z h = absurd (omega (arith, first-byte p))
-public-name (proj snd t) ρ p z h = absurd (omega (arith, first-byte p))
-public-name (binary pair t u) ρ p z h = absurd (omega (arith, first-byte p))
-public-name (binary (cipher enc) t u) ρ p z h = absurd (omega (arith, first-byte p))
-public-name (binary (cipher dec) t u) ρ p z h = absurd (omega (arith, first-byte p))
-public-name (binary mac t u) ρ p z h = absurd (omega (arith, first-byte p))
+    (n, refl, low-bits n (rw (k .size) at q))
+public-name (leaf (variable n)) ρ p z = absurd (omega (arith, first-byte p))
+public-name (proj fst t) ρ p z = absurd (omega (arith, first-byte p))
+public-name (proj snd t) ρ p z = absurd (omega (arith, first-byte p))
+public-name (binary pair t u) ρ p z = absurd (omega (arith, first-byte p))
+public-name (binary (cipher enc) t u) ρ p z = absurd (omega (arith, first-byte p))
+public-name (binary (cipher dec) t u) ρ p z = absurd (omega (arith, first-byte p))
+public-name (binary mac t u) ρ p z = absurd (omega (arith, first-byte p))
 
--- The run of a public name is the two bytes of its number.
-name-run : {argument : List ℕ} (n : ℕ) → argument ≡ encodeMessage (leaf (public n)) → (length argument ≡ 2) × (numberAt argument 0 ≡ 2 * n + 16)
-unfolding encodeMessage
+-- The run of a public name is the two bytes of its number, the lower one first.
+name-run : {argument : List ℕ} (n : ℕ) → argument ≡ encodeMessage (leaf (public n))
+    → (length argument ≡ 2) × ((2 * n + 16) % 256 ≡ getD argument 0 0)
+unfolding encodeMessage encodeWord
 name-run {argument} n e =
     let there = subst (λ (xs : List ℕ). Stands argument 0 xs (length argument)) e (whole-stands argument) in
-    (word-end (2 * n + 16) there, word-number (2 * n + 16) there)
+    (there .size, first-byte there)
 
 -- A channel: nothing is said of it; or it is a public name, and the label is another message.
 module _ {s argument : List ℕ} {at : ℕ} where
   pub may-agree : Differs s argument at false
   may-agree = record { exact = λ e. absurd (true≢false (sym e)) }
 
-  module _ {kind number : ℕ} (k : kind ≡ getD s at 0) (z : kind ≡ 0) (n : number ≡ getD s (at + 1) 0) (h : number < 128) where
-    other-run : ((length argument ≡ 2) × (numberAt argument 0 ≡ 2 * number + 16) → ⊥) → Differs s argument at true
+  module _ {kind : ℕ} (k : kind ≡ getD s at 0) (z : kind ≡ 0) where
+    other-run : {b : Bool} → (b ≡ true → (length argument ≡ 2) × ((2 * getD s (at + 1) 0 + 16) % 256 ≡ getD argument 0 0) → ⊥)
+        → Differs s argument at b
     other-run never = record {
-      exact = λ _ C ρ x p e.
-          let own : worked ρ C ≡ leaf (public number) = rw n (public-name C ρ p (omega arith) (omega arith)) in
-          rw own (is-false (same (leaf (public number)) x) (λ t. never (name-run number (e ∙ ap encodeMessage (sym (same-sound _ _ t))))));
+      exact = λ t C ρ x p e.
+          let (n, own, low) = public-name C ρ p (omega arith) in
+          rw own (is-false (same (leaf (public n)) x) (λ a.
+          let (two, byte) = name-run n (e ∙ ap encodeMessage (sym (same-sound _ _ a))) in
+          never t (two, low ∙ byte)));
     }
 
     pub other-length : (length argument ≡ 2 → ⊥) → Differs s argument at true
-    other-length l = other-run (λ r. l (r .0))
+    other-length l = other-run (λ _ r. l (r .0))
 
-    pub other-number : {v : ℕ} → v ≡ numberAt argument 0 → (v ≡ 2 * number + 16 → ⊥) → Differs s argument at true
-    other-number e l = other-run (λ r. l (e ∙ r .1))
+    pub other-byte : {first low : ℕ} → first ≡ getD s (at + 1) 0 → low ≡ getD argument 0 0 → {b : Bool}
+        → b ≡ not (eqb ((2 * first + 16) % 256) low) → Differs s argument at b
+    other-byte {first} {low} f l e =
+        let agree = eqb ((2 * first + 16) % 256) low in
+        other-run (λ t r. eqb-false _ low (not-true agree (sym e ∙ t)) (rw (f, l) (r .1)))
 
-pub ruleset differences = (may-agree, other-length, other-number)
+pub ruleset differences = (may-agree, other-length, other-byte)
 
 -- A thread that acts by itself has one offer.
 one-offer : (q : Quest) (x : Message) (place k at : ℕ) (ρ : Bound) (p : Prefix) (P : Process) (later : Sight)
