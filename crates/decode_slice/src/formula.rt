@@ -46,28 +46,42 @@ fn head(s: &[u8], at: usize, scope: usize, left: usize, steps: usize) -> Bounded
     }
 }
 
-// The formula at a position, with so many aliases in scope and so many formula nodes and step formulas left on its path.
+// The formula at a position, with so many aliases in scope and so many formula nodes and step formulas left on its path. The last part
+// of a node is read by the loop.
 pub(crate) fn read(s: &[u8], at: usize, scope: usize, left: usize, steps: usize) -> Answer
     requires { ⌜ scope + steps ≤ 16 ⌝ }
     ensures { λ r. ⌜ answer r ≡ extent (formula left steps scope (now (s .entry)) at) ⌝ }
 {
-    match head(s, at, scope, left, steps) {
-        Bounded::Is(k, end) => {
-            let Layout(_, binds, step, n) = layout::formula(k);
-            if n == 0 {
-                return Answer::Ends(end);
+    let mut i = at;
+    let mut inner = scope;
+    let mut nodes = left;
+    let mut rest = steps;
+    loop {
+        match head(s, i, inner, nodes, rest) {
+            Bounded::Is(k, end) => {
+                let Layout(_, binds, step, n) = layout::formula(k);
+                if n == 0 {
+                    return Answer::Ends(end);
+                }
+                inner = inner + binds;
+                nodes = nodes - 1;
+                rest = rest - step;
+                i = end;
+                if n == 1 {
+                    continue;
+                }
+                match read(s, end, inner, nodes, rest) {
+                    Answer::Ends(mid) => {
+                        i = mid;
+                    }
+                    Answer::Refused(why, place) => {
+                        return Answer::Refused(why, place);
+                    }
+                }
             }
-            let inner = scope + binds;
-            let rest = steps - step;
-            let first = read(s, end, inner, left - 1, rest);
-            if n == 1 {
-                return first;
-            }
-            match first {
-                Answer::Ends(mid) => read(s, mid, inner, left - 1, rest),
-                Answer::Refused(why, place) => Answer::Refused(why, place),
+            Bounded::Refused(why, place) => {
+                return Answer::Refused(why, place);
             }
         }
-        Bounded::Refused(why, place) => Answer::Refused(why, place),
     }
 }

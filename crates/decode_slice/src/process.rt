@@ -47,26 +47,39 @@ fn head(s: &[u8], at: usize, scope: usize, left: usize) -> Bounded
     }
 }
 
-// The process at a position, with so many variables in scope and so many process nodes left on its path.
+// The process at a position, with so many variables in scope and so many process nodes left on its path. The last part of a node is
+// read by the loop.
 pub(crate) fn read(s: &[u8], at: usize, scope: usize, left: usize) -> Answer
     ensures { λ r. ⌜ answer r ≡ extent (process left scope (now (s .entry)) at) ⌝ }
 {
-    match head(s, at, scope, left) {
-        Bounded::Is(k, end) => {
-            let Layout(_, binds, _, n) = layout::process(k);
-            if n == 0 {
-                return Answer::Ends(end);
+    let mut i = at;
+    let mut inner = scope;
+    let mut nodes = left;
+    loop {
+        match head(s, i, inner, nodes) {
+            Bounded::Is(k, end) => {
+                let Layout(_, binds, _, n) = layout::process(k);
+                if n == 0 {
+                    return Answer::Ends(end);
+                }
+                inner = inner + binds;
+                nodes = nodes - 1;
+                i = end;
+                if n == 1 {
+                    continue;
+                }
+                match read(s, end, inner, nodes) {
+                    Answer::Ends(mid) => {
+                        i = mid;
+                    }
+                    Answer::Refused(why, place) => {
+                        return Answer::Refused(why, place);
+                    }
+                }
             }
-            let inner = scope + binds;
-            let first = read(s, end, inner, left - 1);
-            if n == 1 {
-                return first;
-            }
-            match first {
-                Answer::Ends(mid) => read(s, mid, inner, left - 1),
-                Answer::Refused(why, place) => Answer::Refused(why, place),
+            Bounded::Refused(why, place) => {
+                return Answer::Refused(why, place);
             }
         }
-        Bounded::Refused(why, place) => Answer::Refused(why, place),
     }
 }

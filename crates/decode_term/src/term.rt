@@ -40,26 +40,38 @@ fn head(s: &[u8], at: usize, scope: usize, left: usize) -> Bounded
     }
 }
 
-// The term at a position, with so many variables in scope and so many term nodes left on its path.
+// The term at a position, with so many variables in scope and so many term nodes left on its path. The last part of a node is read
+// by the loop.
 fn read(s: &[u8], at: usize, scope: usize, left: usize) -> Answer
     ensures { λ r. ⌜ answer r ≡ extent (term left scope (now (s .entry)) at) ⌝ }
 {
-    match head(s, at, scope, left) {
-        Bounded::Is(k, end) => {
-            let Layout(_, _, _, n) = layout::term(k);
-            if n == 0 {
-                return Answer::Ends(end);
+    let mut i = at;
+    let mut nodes = left;
+    loop {
+        match head(s, i, scope, nodes) {
+            Bounded::Is(k, end) => {
+                let Layout(_, _, _, n) = layout::term(k);
+                if n == 0 {
+                    return Answer::Ends(end);
+                }
+                nodes = nodes - 1;
+                i = end;
+                if n == 1 {
+                    continue;
+                }
+                match read(s, end, scope, nodes) {
+                    Answer::Ends(mid) => {
+                        i = mid;
+                    }
+                    Answer::Refused(why, place) => {
+                        return Answer::Refused(why, place);
+                    }
+                }
             }
-            let first = read(s, end, scope, left - 1);
-            if n == 1 {
-                return first;
-            }
-            match first {
-                Answer::Ends(mid) => read(s, mid, scope, left - 1),
-                Answer::Refused(why, place) => Answer::Refused(why, place),
+            Bounded::Refused(why, place) => {
+                return Answer::Refused(why, place);
             }
         }
-        Bounded::Refused(why, place) => Answer::Refused(why, place),
     }
 }
 

@@ -114,13 +114,20 @@ fn rest(
     ensures { λ r. ⌜ Reaches start 1 r ⌝ }
     ensures { λ r. ⌜ SecondWorked (now (s .entry)) at left (now (m .entry)) base start mid kind r (now (m .exit)) ⌝ }
 {
-    if node::parts(kind) == 1 {
-        return reduce(m, start, mid, mid, at);
+    let mut next = at;
+    let mut end = mid;
+    if node::parts(kind) != 1 {
+        match work(s, at, left, m, base, mid) {
+            Worked::Done(after, last) => {
+                next = after;
+                end = last;
+            }
+            Worked::TooLarge => {
+                return Worked::TooLarge;
+            }
+        }
     }
-    match work(s, at, left, m, base, mid) {
-        Worked::Done(next, end) => reduce(m, start, mid, end, next),
-        Worked::TooLarge => Worked::TooLarge,
-    }
+    reduce(m, start, mid, end, next)
 }
 
 // The term at a position, worked under the messages bound at base into the bytes from start on. The bytes behind the message, as far as

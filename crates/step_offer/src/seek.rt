@@ -157,7 +157,18 @@ pub fn seek(
         let done = look(s, argument, i, to, m, here, names, out);
         let going = done.going;
         if !going {
-            return Sighting { at: i, done: done };
+            // Field by field: as a whole it would be copied in overlapping pieces, whose loads wait for the stores.
+            let state = done.state;
+            return Sighting {
+                at: i,
+                done: Progress {
+                    going: going,
+                    names: done.names,
+                    mark: done.mark,
+                    sent: done.sent,
+                    state: state,
+                },
+            };
         }
         let further = pass::behind(s, argument, i, to, quest, skip, out);
         i = further.at;

@@ -78,7 +78,15 @@ pub fn behind(
     ensures { λ r. ⌜ SettlesOffer (now (s .entry)) (now (argument .entry)) at opens (now (m .entry)) mark (now (out .entry)) done r (now (out .exit)) ⌝ }
 {
     if ends(s, mark) {
-        return done;
+        // Field by field: as a whole it would be copied in overlapping pieces, whose loads wait for the stores.
+        let state = done.state;
+        return Progress {
+            going: done.going,
+            names: done.names,
+            mark: done.mark,
+            sent: done.sent,
+            state: state,
+        };
     }
     let offer = counting::arrive(s, at, opens, m, mark, out);
     arrived(s, argument, offer, m, out, done)

@@ -13,7 +13,7 @@ use Rattle.meaning.specs.Bytes.Process.{Process}
 use Rattle.meaning.specs.Bytes.Formula.{Formula}
 use Rattle.meaning.specs.Bytes.Reading.{field, roomFor, processFields, process}
 use Rattle.meaning.specs.Bytes.Reading.{stepsLeft, formulaFields, formula}
-use Rattle.decode_number.specs.Answer.{extent}
+use Rattle.decode_number.specs.Answer.{Extent, extent}
 use Rattle.decode_layout.specs.Layout.{parts, layoutOf, processLayouts, formulaLayouts}
 use Rattle.decode_term.specs.Shape.{times, node, termsAt}
 use Rattle.decode_slice.specs.Sorts.{ownTerms, processRoom, processHead, processPart, formulaRoom, formulaHead, formulaPart}
@@ -50,8 +50,12 @@ module _ (left scope : ℕ) (s : List ℕ) where
       also (refl, λ t end. and-part same 0 end λ P end. both-end)
       also complete)
 
-pub process-layout : (left scope : ℕ) (s : List ℕ) (at : ℕ) → extent (process left scope s at)
-    ≡ node (processHead left scope s at) processLayouts (λ k. processPart (left - 1) scope s (layoutOf processLayouts k))
+-- A process as a head and parts.
+abbrev pub processNode : (left scope : ℕ) → List ℕ → (at : ℕ) → Extent
+processNode left scope s at =
+    node (processHead left scope s at) processLayouts (λ k. processPart (left - 1) scope s (layoutOf processLayouts k))
+
+pub process-layout : (left scope : ℕ) (s : List ℕ) (at : ℕ) → extent (process left scope s at) ≡ processNode left scope s at
 unfolding process
 process-layout zero scope s at = same-extent (too-deep _ processKinds _ _ processLayouts _ s at)
 process-layout (suc left) scope s at =
@@ -90,9 +94,14 @@ module _ (left steps scope : ℕ) (s : List ℕ) where
       also (refl, λ t end. and-part stepped 0 end λ F end. both-end)
       also complete)
 
-pub formula-layout : (left steps scope : ℕ) (s : List ℕ) (at : ℕ) → extent (formula left steps scope s at)
-    ≡ node (formulaHead left steps scope s at) formulaLayouts
+-- A formula as a head and parts.
+abbrev pub formulaNode : (left steps scope : ℕ) → List ℕ → (at : ℕ) → Extent
+formulaNode left steps scope s at =
+    node (formulaHead left steps scope s at) formulaLayouts
     (λ k. formulaPart (left - 1) steps scope s (layoutOf formulaLayouts k))
+
+pub formula-layout : (left steps scope : ℕ) (s : List ℕ) (at : ℕ)
+    → extent (formula left steps scope s at) ≡ formulaNode left steps scope s at
 unfolding formula
 formula-layout zero steps scope s at = same-extent (too-deep _ formulaKinds _ _ formulaLayouts _ s at)
 formula-layout (suc left) steps scope s at =

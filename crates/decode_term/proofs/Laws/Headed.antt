@@ -48,11 +48,14 @@ module _ (kinds left : ℕ) (room : ℕ → Bool) (own : ℕ → ℕ → Extent)
     pub node-left : 1 ≤ left
     node-left = omega (arith, facts.1)
 
-    -- One node less is left for the parts.
-    pub left-falls : {t : ℕ} → left ≡ t → left - 1 < t
-    left-falls g = omega (arith, facts.1)
+    -- One node less is left for the parts, so fewer than for what was asked for.
+    pub left-falls : left - 1 < left
+    left-falls = omega (arith, facts.1)
+
+    pub part-falls : {asked t : ℕ} → left ≤ asked → asked ≡ t → left - 1 < t
+    part-falls g i = omega (arith, facts.1)
 
     pub room-left : T (room k)
     room-left = facts.2
 
-pub ruleset headed = (kind-listed, node-left, left-falls)
+pub ruleset headed = (kind-listed, node-left, left-falls, part-falls)

@@ -22,39 +22,41 @@ unfolding andThen
 then-done (found tt end) = refl
 then-done (refused number place) = refl
 
-module _ (h : Read ℕ) (table : List Layout) (part : ℕ → ℕ → Extent) {r : Bounded} (e : bounded r ≡ h) where
-  pub no-head : {why : Refusal} {place : ℕ} → r ≡ bounds.the-variants.Refused why place
-      → refused (refusalNumber why) place ≡ node h table part
+module _ (h : Read ℕ) (table : List Layout) (part : ℕ → ℕ → Extent) {x : Extent} (d : x ≡ node h table part) {r : Bounded}
+    (e : bounded r ≡ h) where
+  pub no-head : {why : Refusal} {place : ℕ} → r ≡ bounds.the-variants.Refused why place → refused (refusalNumber why) place ≡ x
   unfolding node andThen
-  no-head f = rw (← e, f)
+  no-head f = rw (d, ← e, f)
 
   module _ {k end : ℕ} (f : r ≡ bounds.the-variants.Is k end) {l : Layout} (g : l ≡ layoutOf table k) where
     -- The parts that are left to be read.
-    rest : node h table part ≡ times (parts l) (part k) end
+    rest : x ≡ times (parts l) (part k) end
     unfolding node andThen
-    rest = rw (← e, f, g)
+    rest = rw (d, ← e, f, g)
 
-    pub no-parts : parts l ≡ 0 → found tt end ≡ node h table part
+    pub no-parts : parts l ≡ 0 → found tt end ≡ x
     unfolding times
     no-parts z = rw (rest, z)
 
-    pub one-part : parts l ≡ 1 → {x : Extent} → x ≡ part k end → x ≡ node h table part
+    -- Of a node of one part, that part is left.
+    pub one-part : parts l ≡ 1 → {y : Extent} → y ≡ part k end → x ≡ y
     unfolding times
-    one-part z {x} i = rw (rest, z, ← i, then-done)
+    one-part z i = rw (rest, z, i, then-done)
 
     pub first-refused : (parts l ≡ 0 → ⊥) → {a : Answer} → answer a ≡ part k end → {why : Refusal} {place : ℕ}
-        → a ≡ answers.the-variants.Refused why place → refused (refusalNumber why) place ≡ node h table part
+        → a ≡ answers.the-variants.Refused why place → refused (refusalNumber why) place ≡ x
     unfolding times andThen
     first-refused z i j =
         let one : parts l ≡ suc (parts l - 1) = omega arith in
         rw (rest, one, ← i, j)
 
+    -- Of a node of two parts, the second is left after the first.
     pub two-parts : FewParts table → (parts l ≡ 0 → ⊥) → (parts l ≡ 1 → ⊥) → {a : Answer} → answer a ≡ part k end → {mid : ℕ}
-        → a ≡ answers.the-variants.Ends mid → {x : Extent} → x ≡ part k mid → x ≡ node h table part
+        → a ≡ answers.the-variants.Ends mid → {y : Extent} → y ≡ part k mid → x ≡ y
     unfolding times andThen
-    two-parts few z o i j m =
+    two-parts few z o i {mid} j m =
         let two : parts l ≡ 2 = omega (arith, two-at-most table few k g) in
-        rw (rest, two, ← i, j, ← m, then-done)
+        rw (rest, two, ← i, j, m, then-done (part k mid))
 
 pub ruleset nodes = (no-head, no-parts, one-part, first-refused, two-parts)
 

@@ -9,7 +9,7 @@ use Rattle.meaning.specs.Messages.Term.{Side, fst, snd, enc, dec, Binary, pair,
 use Rattle.meaning.specs.Bytes.Kind.{TermKind, termKinds}
 use Rattle.meaning.specs.Bytes.Number.{Read, found, refused, andThen, provided, number}
 use Rattle.meaning.specs.Bytes.Reading.{always, termFields, term}
-use Rattle.decode_number.specs.Answer.{extent}
+use Rattle.decode_number.specs.Answer.{Extent, extent}
 use Rattle.decode_layout.specs.Layout.{parts, layoutOf, termLayouts}
 use Rattle.decode_number.specs.Bounded.{numberBelow}
 use Rattle.decode_term.specs.Shape.{times, node, leaf, termHead}
@@ -64,8 +64,11 @@ module _ (left scope : ℕ) (s : List ℕ) where
       also (refl, two mac)
       also complete
 
-pub term-layout : (left scope : ℕ) (s : List ℕ) (at : ℕ)
-    → extent (term left scope s at) ≡ node (termHead left scope s at) termLayouts (λ k e. extent (term (left - 1) scope s e))
+-- A term as a head and parts.
+abbrev pub termNode : (left scope : ℕ) → List ℕ → (at : ℕ) → Extent
+termNode left scope s at = node (termHead left scope s at) termLayouts (λ k e. extent (term (left - 1) scope s e))
+
+pub term-layout : (left scope : ℕ) (s : List ℕ) (at : ℕ) → extent (term left scope s at) ≡ termNode left scope s at
 unfolding term
 term-layout zero scope s at = same-extent (too-deep _ termKinds _ _ termLayouts _ s at)
 term-layout (suc left) scope s at =

@@ -37,11 +37,12 @@ worked-binary ρ b u v =
 -- The first part stands behind the kind.
 module _ {s m : List ℕ} {at left base start mid kind c : ℕ} (g : c ≡ partsOf kind) where
   -- The kind has no other part.
-  pub projected : {m₁ : List ℕ} {r : Worked} → c ≡ 1 → Reduced m start mid mid at r m₁ → SecondWorked s at left m base start mid kind r m₁
+  pub projected : {m₁ m₂ : List ℕ} {i end : ℕ} {r : Worked} → Reduced m₁ start mid end i r m₂ → m₁ ≡ m → i ≡ at → end ≡ mid → c ≡ 1
+      → SecondWorked s at left m base start mid kind r m₂
   unfolding over encodeMessage encodeWord
-  projected one d = record {
+  projected d e f l one = record {
     one = λ t u ρ k o q.
-        by-reduction (proj t (worked ρ u)) d (worked-proj ρ t u) (rw o) (normalForms (written ρ u) .0) q
+        by-reduction (proj t (worked ρ u)) (rw (e, f, l) at d) (worked-proj ρ t u) (rw o) (normalForms (written ρ u) .0) q
         (omega (arith, q .size, length-encode (worked ρ u)));
     two = λ b u v ρ k o q p h. absurd (omega (arith, ap partsOf k, binary-parts b));
   }
@@ -56,16 +57,17 @@ module _ {s m : List ℕ} {at left base start mid kind c : ℕ} (g : c ≡ parts
       two = λ b u v ρ k o q p h. over-large (rw (o, said-over _ _ _ (f .exact v ρ p h .answer) e));
     }
 
-    pub joined : {m₂ : List ℕ} {i end : ℕ} {r : Worked} → r₁ ≡ Done i end → Reduced m₁ start mid end i r m₂
-        → SecondWorked s at left m base start mid kind r m₂
+    pub joined : {n m₂ : List ℕ} {i j end high : ℕ} {r : Worked} → Reduced n start mid end i r m₂ → n ≡ m₁ → i ≡ j → end ≡ high
+        → r₁ ≡ Done j high → SecondWorked s at left m base start mid kind r m₂
     unfolding over encodeMessage encodeWord
-    joined e d = record {
+    joined d l x y e = record {
       one = λ t u ρ k o q. absurd (two (g ∙ ap partsOf k ∙ side-parts t));
       two = λ b u v ρ k o q p h.
           let second = f .exact v ρ p h in
           let (o₂, next, end) = said-small _ _ _ (second .answer) e in
-          rw (← next) (by-reduction (binary b (worked ρ u) (worked ρ v)) d (worked-binary ρ b u v) (rw (o, o₂))
-          (normalForms (written ρ u) .0, normalForms (written ρ v) .0) (kept {low = mid} q (omega arith) (w .below) ⨾ rw end (second .run o₂))
+          rw (← next) (by-reduction (binary b (worked ρ u) (worked ρ v)) (rw (l, x, y) at d) (worked-binary ρ b u v) (rw (o, o₂))
+          (normalForms (written ρ u) .0, normalForms (written ρ v) .0)
+          (kept {low = mid} q (omega arith) (w .below) ⨾ rw end (second .run o₂))
           (omega (arith, q .size, length-encode (worked ρ u))));
     }
 

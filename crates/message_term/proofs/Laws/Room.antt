@@ -29,30 +29,34 @@ leaf-reaches some h = record {
 
 pub ruleset term-rooms = (name-room, variable-room, node-room, leaf-reaches)
 
--- The second part, behind the first one, which ends at mid.
-module _ {m m₁ : List ℕ} (left start mid : ℕ) where
-  pub one-within : Within start mid m m₁ → Within start (mid + 512 * left) m m₁
-  one-within w = wider w (omega arith) (omega arith)
+-- There is no second part behind the first one, which ends at mid.
+pub none-room : {m n : List ℕ} {mid end : ℕ} (left : ℕ) → n ≡ m → end ≡ mid → mid + 512 * left ≤ length m → end ≤ length n
+none-room left e f room = rw e (omega arith)
 
-  pub second-within : Within mid (mid + 512 * left) m m₁ → start ≤ mid → Within start (mid + 512 * left) m m₁
-  second-within w l = wider w l (omega arith)
+pub none-within : {m n m₁ : List ℕ} {end : ℕ} (left start mid : ℕ) → Within start end n m₁ → n ≡ m → end ≡ mid
+    → Within start (mid + 512 * left) m m₁
+none-within left start mid w e f = wider (rw e at w) (omega arith) (omega arith)
 
-  pub joined-within : {m₂ : List ℕ} {r : Worked} {i end : ℕ} → r ≡ Done i end → Reaches mid left r → Within start end m₁ m₂
-      → Within mid (mid + 512 * left) m m₁ → start ≤ mid → Within start (mid + 512 * left) m m₂
-  joined-within {i} {end} e h v w l =
-      let (low, high, some) = h .there i end e in
-      one-after w v (omega arith) (omega arith) (omega arith) (omega arith)
+-- The second part is too large; or it ends at high.
+pub large-within : {m m₁ : List ℕ} (left start mid : ℕ) → Within mid (mid + 512 * left) m m₁ → start ≤ mid
+    → Within start (mid + 512 * left) m m₁
+large-within left start mid w l = wider w l (omega arith)
 
-pub end-above : {left mid i end : ℕ} {r : Worked} → r ≡ Done i end → Reaches mid left r → mid ≤ end
-end-above {i} {end} e h = h .there i end e .0
+module _ {r : Worked} {left mid i end high : ℕ} (f : end ≡ high) (d : r ≡ Done i high) (h : Reaches mid left r) where
+  reached₂ : (mid ≤ high) × (high ≤ mid + 510) × (1 ≤ left)
+  reached₂ = h .there i high d
 
-pub end-within : {m m₁ : List ℕ} {left mid i end : ℕ} {r : Worked} → r ≡ Done i end → Reaches mid left r
-    → Within mid (mid + 512 * left) m m₁ → mid + 512 * left ≤ length m → end ≤ length m₁
-end-within {i} {end} e h w room = let (low, high, some) = h .there i end e in omega (arith, w .long)
+  pub end-above : mid ≤ end
+  end-above = let g = reached₂ in omega arith
 
-pub ruleset rest-rooms = (end-above, end-within)
+  module _ {m m₁ n : List ℕ} (e : n ≡ m₁) (w : Within mid (mid + 512 * left) m m₁) where
+    pub end-within : mid + 512 * left ≤ length m → end ≤ length n
+    end-within room = let g = reached₂ in rw e (omega (arith, w .long))
 
-pub ruleset rest-withins = (one-within, second-within, joined-within)
+    pub joined-within : {m₂ : List ℕ} {start : ℕ} → Within start end n m₂ → start ≤ mid → Within start (mid + 512 * left) m m₂
+    joined-within v l = let g = reached₂ in one-after w (rw e at v) (omega arith) (omega arith) (omega arith) (omega arith)
+
+pub ruleset rest-withins = (none-within, large-within, joined-within)
 
 -- The kind and the first part; then the rest.
 pub first-within : {m m₁ m₂ : List ℕ} (left start kind : ℕ) → Within (start + 2) (start + 2 + 512 * left) m₁ m₂

@@ -1,13 +1,18 @@
--- `decode_slice::process::read` meets its contract, by the layout of processes. The measure is the number of process nodes left.
-use mathlib.Core.Path.{sym, _∙_}
-use Prim.Native.Nat.{ℕ, _<_}
+-- `decode_slice::process::read` meets its contract, by the layout of processes. The measure of the calls and of the loop is the number of
+-- process nodes left. The loop knows that the process asked for has the extent of the one at hand, and that its scope fits.
+use mathlib.Core.Path.{_≡_, _∙_}
+use Prim.Native.Nat.{ℕ, _≤_, _<_}
 use borrow.Author.Needs.{needs}
 use borrow.Fn.Kinds.{In}
 use borrow.Fn.PlainCycle.{Measures, is, falls, and}
+use mir.Syntax.{w64}
+use mir.Val.{Fits}
+use Rattle.meaning.specs.Bytes.Reading.{process}
+use Rattle.decode_number.specs.Answer.{extent}
 use Rattle.decode_term.proofs.Laws.Headed.{headed}
 use Rattle.decode_term.proofs.Laws.Node.{nodes}
 use Rattle.decode_slice.proofs.Laws.Scope.{scopes}
-use Rattle.decode_slice.proofs.Laws.Sorts.{process-layout}
+use Rattle.decode_slice.proofs.Laws.Sorts.{processNode, process-layout}
 use Rattle.decode_slice.proofs.process.read.Reads as read
 use Rattle.decode_slice.proofs.process.read.Kinds as read-kinds
 use Rattle.decode_slice.proofs.process.+read.Lts-read as read-lts
@@ -25,22 +30,31 @@ read-at t = and 1 read-kinds.ps (is 1 read-kinds.ps left t) read.Pre
 abbrev read-below : ℕ → In 1 read-kinds.ps
 read-below t = and 1 read-kinds.ps (falls 1 read-kinds.ps _<_ left t) read.Pre
 
+abbrev Inv-loop : read-lts.InvT-loop
+Inv-loop s at scope left i₀ inner₀ nodes₀ i inner nodes =
+    (extent (process left scope s at) ≡ processNode nodes inner s i) × Fits w64 inner × (nodes ≤ left)
+
+abbrev μ-loop : read-lts.MeasureT-loop
+μ-loop s at scope left i₀ inner₀ nodes₀ i inner nodes = nodes
+
 pub +read-spec : {M : Type 1} → statement M
 +read-spec = close left λ t. read-lts.spec
     (head-reads.Asked, head-reads.Learnt, layout-reads.Asked, layout-reads.Learnt, read-below t, read.Post) (read-at t) read.Post
+    Inv-loop μ-loop
+    (λ c. (process-layout _ _ _ _, search needs, search needs))
     (λ c κs. search needs)
     (λ c. search needs)
     (λ c κs. search (needs, headed))
-    (λ c. search (needs, nodes, scopes) ∙ sym (process-layout _ _ _ _))
+    (λ c. search (needs, nodes, scopes))
     (λ c. search (needs, scopes))
     (λ c. search (needs, headed))
+    (λ c. search (needs, headed))
+    (λ c. (search (needs, nodes, scopes) ∙ process-layout _ _ _ _, search (needs, scopes), search needs))
     (λ c κs. search (needs, headed))
-    (λ c. search (needs, nodes, scopes) ∙ sym (process-layout _ _ _ _))
     (λ c. search needs)
     (λ c. search (needs, headed))
-    (λ c κs. search (needs, headed))
+    (λ c. (search (needs, nodes, scopes) ∙ process-layout _ _ _ _, search (needs, scopes), search needs))
     (λ c. search needs)
+    (λ c. search (needs, nodes, scopes))
     (λ c. search needs)
-    (λ c. search (needs, nodes, scopes) ∙ sym (process-layout _ _ _ _))
-    (λ c. search (needs, nodes, scopes) ∙ sym (process-layout _ _ _ _))
-    (λ c. search (needs, nodes, scopes) ∙ sym (process-layout _ _ _ _))
+    (λ c. search (needs, nodes, scopes))

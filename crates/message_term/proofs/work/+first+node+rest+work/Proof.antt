@@ -1,6 +1,7 @@
 -- `message_term::work::work`, `node`, `first` and `rest` meet their contracts: leaves first, then a node over its parts. The measure is
--- the number of term nodes left, three steps to a node.
+-- the number of term nodes left, three steps to a node. In `rest` two ways meet, with a second part and without one.
 use mathlib.Core.List.{List}
+use mathlib.Core.Logic.{⊎-elim}
 use Prim.Native.Nat.{ℕ, _+_, _*_, _<_}
 use borrow.Author.Needs.{needs}
 use borrow.Fn.Kinds.{In, PK}
@@ -9,7 +10,8 @@ use Rattle.buffer.proofs.Laws.Buffer.{unchanged}
 use Rattle.message_term.proofs.Laws.Leaf.{no-reach}
 use Rattle.message_term.proofs.Laws.Work.{works}
 use Rattle.message_term.proofs.Laws.Inner.{joins, behind-kind, firsts}
-use Rattle.message_term.proofs.Laws.Room.{term-rooms, rest-rooms, rest-withins, first-within, node-rooms, rest-within}
+use Rattle.message_term.proofs.Laws.Room.{term-rooms, none-room, end-above, end-within, rest-withins}
+use Rattle.message_term.proofs.Laws.Room.{first-within, node-rooms, rest-within}
 use Rattle.message_term.proofs.work.first.Reads as first
 use Rattle.message_term.proofs.work.first.Kinds as first-kinds
 use Rattle.message_term.proofs.work.+first+node+rest+work.Lts-first as first-lts
@@ -73,21 +75,24 @@ pub +first+node+rest+work-spec : {M : Type 1} → statement M
     (λ c. search needs)
     (λ c. (search needs, (no-reach, search (needs, firsts)))))
     (λ t. rest-lts.spec
-    (parts-reads.Asked, parts-reads.Learnt, reduce-reads.Asked, reduce-reads.Learnt, below work-kinds.ps μ-work work.Pre t, work.Post)
+    (parts-reads.Asked, parts-reads.Learnt, below work-kinds.ps μ-work work.Pre t, work.Post, reduce-reads.Asked, reduce-reads.Learnt)
     (at rest-kinds.ps μ-rest rest.Pre t)
     rest.Post
     (λ c κs. search needs)
     (λ c κs. search needs)
     (λ c. search needs)
-    (λ c. (search (needs, rest-withins), (search needs, search (needs, joins))))
-    (λ c κs. search needs)
-    (λ c. search needs)
-    (λ c κs. search (needs, rest-rooms))
     (λ c. search needs)
     (λ c. search needs)
-    (λ c. (search (needs, rest-withins), (search needs, search (needs, joins))))
-    (λ c. search needs)
-    (λ c. (search (needs, rest-withins), (no-reach, search (needs, joins)))))
+    (λ c. (search (needs, rest-withins), (no-reach, search (needs, joins))))
+    (λ c κs. ⊎-elim
+    (λ w. (search needs, search (needs, end-above), search (needs, end-within)))
+    (λ w. search (needs, none-room))
+    (c .before .if1 .came))
+    (λ c. ⊎-elim (λ w. search needs) (λ w. search needs) (c .before .before .before .before .if1 .came))
+    (λ c. ⊎-elim
+    (λ w. (search (needs, rest-withins), (search needs, search (needs, joins))))
+    (λ w. (search (needs, rest-withins), (search needs, search (needs, joins))))
+    (c .before .before .before .before .if1 .came)))
     λ t. work-lts.spec (
       wide-reads.Asked,
       wide-reads.Learnt,
