@@ -3,7 +3,7 @@
 use crate::layout;
 use crate::layout::Layout;
 use decode_number::number;
-use decode_number::number::Spelling;
+use decode_number::number::Decoding;
 ghost use Prim.Native.Nat.{_≤_};
 ghost use Rattle.decode_layout.specs.Ends.{NumbersEnd, TermEnd, TermsEnd};
 
@@ -16,7 +16,7 @@ fn numbers(s: &[u8], at: usize, count: usize) -> usize
     if count == 0 {
         return at;
     }
-    let Spelling(_, end) = number::spelled(s, at);
+    let Decoding(_, end) = number::decoded(s, at);
     end
 }
 

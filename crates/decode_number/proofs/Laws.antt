@@ -1,4 +1,4 @@
 -- The laws by which numbers are read.
 pub mod Number
-pub mod Spelling
+pub mod Decoding
 pub mod Bounded

@@ -1,4 +1,4 @@
--- Numbers are what is spelled ("Bytes", first paragraph), and a promise leaves one answer only ("Turned back for the input").
+-- Numbers are what arithmetic gives ("Bytes", first paragraph), and a promise leaves one answer only ("Turned back for the input").
 use mathlib.Core.Path.{_≡_, refl, sym, ap, _∙_}
 use mathlib.Core.Bool.{true, false}
 use mathlib.Core.List.{List, [], _∷_}
@@ -16,26 +16,26 @@ use Rattle.decode_number.specs.declared.answer.Answer.the-variants.{Ends
 use Rattle.decode_number.specs.declared.number.Numeral as numerals
 use Rattle.decode_number.specs.declared.number.Numeral.{Numeral}
 use Rattle.decode_number.specs.Answer.{refusalNumber, answer, numeral}
-use Rattle.decode_number.specs.Spelling.{spelledValue, oneForm}
-use Rattle.decode_number.specs.Theorems.{NumbersSpelled, AnswersFixed, NumeralsFixed}
-use Rattle.decode_number.proofs.Laws.Spelling.{by-order, none-value, none-end, none-form}
-use Rattle.decode_number.proofs.Laws.Spelling.{last-value, missing-end, missing-form, there-end, there-form}
+use Rattle.decode_number.specs.Decoding.{decodedValue, canonical}
+use Rattle.decode_number.specs.Theorems.{NumbersDecoded, AnswersFixed, NumeralsFixed}
+use Rattle.decode_number.proofs.Laws.Decoding.{by-order, none-value, none-end, none-form}
+use Rattle.decode_number.proofs.Laws.Decoding.{last-value, missing-end, missing-form, there-end, there-form}
 
--- In every slice of bytes the number at a position is what is spelled there, if that is in the one form.
+-- In every slice of bytes the number at a position is the one that arithmetic gives, if that is in the one form.
 byte-at : (s : List ℕ) → Bytes s → (at : ℕ) → getD s at 0 < 256
 byte-at [] u at = omega arith
 byte-at (b ∷ s) (h, u) zero = h
 byte-at (b ∷ s) (h, u) (suc at) = byte-at s u at
 
-pub numbersSpelled : NumbersSpelled
-numbersSpelled s u at =
-    let value = spelledValue s at in
+pub numbersDecoded : NumbersDecoded
+numbersDecoded s u at =
+    let value = decodedValue s at in
     let byte = byte-at s u at in
     by-order at (length s)
     (λ h. by-order (at + getD s at 0 / 128) (length s)
-    (λ l. there-form s at refl l refl (sym (last-value s at refl byte refl refl)) byte ∙ ap (oneForm s at value) (there-end s at refl l))
-    (λ l. missing-form s at refl l value h byte ∙ ap (oneForm s at value) (missing-end s at refl l)))
-    (λ h. none-form s at h ∙ ap (λ v. oneForm s at v at) (none-value s at h) ∙ ap (oneForm s at value) (none-end s at h))
+    (λ l. there-form s at refl l refl (sym (last-value s at refl byte refl refl)) byte ∙ ap (canonical s at value) (there-end s at refl l))
+    (λ l. missing-form s at refl l value h byte ∙ ap (canonical s at value) (missing-end s at refl l)))
+    (λ h. none-form s at h ∙ ap (λ v. canonical s at v at) (none-value s at h) ∙ ap (canonical s at value) (none-end s at h))
 
 -- Each answer can be told from what it says.
 abbrev numbered : ℕ → Refusal

@@ -1,4 +1,4 @@
 pub mod Answer
-pub mod Spelling
+pub mod Decoding
 pub mod Bounded
 pub mod Theorems

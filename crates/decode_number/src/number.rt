@@ -5,7 +5,7 @@ use crate::answer::Refusal;
 ghost use mathlib.Core.Path.{_≡_};
 ghost use Prim.Native.Nat.{_≤_, _<_};
 ghost use Rattle.meaning.specs.Bytes.Number.{number};
-ghost use Rattle.decode_number.specs.Spelling.{spell, spelledValue, spelledEnd, oneForm};
+ghost use Rattle.decode_number.specs.Decoding.{decode, decodedValue, decodedEnd, canonical};
 ghost use Rattle.decode_number.specs.Answer.{answer, numeral, bounded, extent};
 ghost use Rattle.decode_number.specs.Bounded.{numberBelow};
 
@@ -29,41 +29,41 @@ pub fn wide(b: u8) -> usize
     b as usize
 }
 
-// What two bytes spell: the first one's low seven bits, and 128 times the second times the first one's top bit.
-fn spell(first: usize, second: usize) -> usize
+// The value of two bytes: the first one's low seven bits, and 128 times the second times the first one's top bit.
+fn decode(first: usize, second: usize) -> usize
     requires { ⌜ (first < 256) × (second < 256) ⌝ }
-    ensures { λ r. ⌜ r ≡ spell first second ⌝ }
+    ensures { λ r. ⌜ r ≡ decode first second ⌝ }
 {
     first % 128 + 128 * second * (first / 128)
 }
 
-// The value of the number that bytes spell, in whatever form, and the position after it.
-pub struct Spelling(pub usize, pub usize);
+// The value of a number, in whatever form, and the position after it.
+pub struct Decoding(pub usize, pub usize);
 
-// The number that the bytes at a position spell. Where they end early, the position after it is that position itself. A number of one
+// The number at a position, in whatever form. Where the bytes end early, the position after it is that position itself. A number of one
 // byte has that byte for its last, which then counts 0 times.
-pub fn spelled(s: &[u8], at: usize) -> Spelling
-    ensures { λ r. ⌜ r .0 ≡ spelledValue (now (s .entry)) at ⌝ }
-    ensures { λ r. ⌜ r .1 ≡ spelledEnd (now (s .entry)) at ⌝ }
-    ensures { λ r. ⌜ number (now (s .entry)) at ≡ oneForm (now (s .entry)) at (r .0) (r .1) ⌝ }
+pub fn decoded(s: &[u8], at: usize) -> Decoding
+    ensures { λ r. ⌜ r .0 ≡ decodedValue (now (s .entry)) at ⌝ }
+    ensures { λ r. ⌜ r .1 ≡ decodedEnd (now (s .entry)) at ⌝ }
+    ensures { λ r. ⌜ number (now (s .entry)) at ≡ canonical (now (s .entry)) at (r .0) (r .1) ⌝ }
 {
     if s.len() <= at {
-        return Spelling(0, at);
+        return Decoding(0, at);
     }
     let first = wide(s[at]);
     let place = at + first / 128;
     if s.len() <= place {
-        return Spelling(spell(first, 0), at);
+        return Decoding(decode(first, 0), at);
     }
     let last = wide(s[place]);
-    Spelling(spell(first, last), place + 1)
+    Decoding(decode(first, last), place + 1)
 }
 
 // The number at a position: seven bits to a byte, low bits first, in one byte or two.
 pub fn read(s: &[u8], at: usize) -> Numeral
     ensures { λ r. ⌜ numeral (now (s .entry)) at r ≡ number (now (s .entry)) at ⌝ }
 {
-    let Spelling(value, end) = spelled(s, at);
+    let Decoding(value, end) = decoded(s, at);
     if end <= at {
         return Numeral::Truncated;
     }

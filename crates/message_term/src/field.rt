@@ -1,6 +1,6 @@
 // The number of a public name, a variable or an alias, read again ("Bytes").
 use decode_number::number;
-use decode_number::number::Spelling;
+use decode_number::number::Decoding;
 ghost use Prim.Native.Nat.{_<_};
 ghost use Rattle.message_term.specs.Inner.{FieldAt};
 
@@ -12,6 +12,6 @@ pub(crate) fn read(s: &[u8], at: usize) -> Field
     ensures { λ r. ⌜ r .0 < 16384 ⌝ }
     ensures { λ r. ⌜ FieldAt (now (s .entry)) at (r .0) (r .1) ⌝ }
 {
-    let Spelling(n, next) = number::spelled(s, at);
+    let Decoding(n, next) = number::decoded(s, at);
     Field(n % 16384, next)
 }

@@ -11,8 +11,8 @@ use Rattle.meaning.specs.Bytes.Formula.{Label, Formula}
 use Rattle.meaning.specs.Bytes.Encoding.{encodeNumber, encodeTerm, encodeProcess, encodeFormula}
 use Rattle.meaning.specs.Bytes.Standing.{Stands}
 use Rattle.meaning.proofs.Bytes.Reader.{by-test}
-use Rattle.decode_number.specs.Spelling.{spelledEnd}
-use Rattle.decode_number.proofs.Laws.Spelling.{there-end, end-after}
+use Rattle.decode_number.specs.Decoding.{decodedEnd}
+use Rattle.decode_number.proofs.Laws.Decoding.{there-end, end-after}
 use Rattle.decode_layout.specs.declared.layout.Layout.{Layout}
 use Rattle.decode_layout.specs.Layout.{fields, parts, layoutOf, termLayouts, processLayouts, formulaLayouts}
 use Rattle.decode_layout.specs.Ends.{row, EndOf, RowEnd}
@@ -83,11 +83,11 @@ by-form {s} {at} {end} {r} n f g =
 
 -- It is where its bytes say.
 module _ (s : List ℕ) (at : ℕ) where
-  by-first : {b r : ℕ} → r ≡ spelledEnd s at → b ≡ getD s at 0 → at + b / 128 < length s → r ≡ at + b / 128 + 1
+  by-first : {b r : ℕ} → r ≡ decodedEnd s at → b ≡ getD s at 0 → at + b / 128 < length s → r ≡ at + b / 128 + 1
   by-first h e l = h ∙ sym (there-end s at e l)
 
-  pub spelled-end : {r : ℕ} → r ≡ spelledEnd s at → EndOf encodeNumber s at r
-  spelled-end h = record {
+  pub decoded-end : {r : ℕ} → r ≡ decodedEnd s at → EndOf encodeNumber s at r
+  decoded-end h = record {
     same = λ n. by-form n
         (λ l p. omega (arith, p .size, by-first h (first-byte p) (omega (arith, goes-on p))))
         (λ p. omega (arith, p .size, by-first h (first-byte p) (omega (arith, length-drop at s, ap length (p .bytes)))));
@@ -101,4 +101,4 @@ module _ {s : List ℕ} {at : ℕ} where
   pub no-number : {count : ℕ} → count ≡ 0 → RowEnd encodeNumber s at count at
   no-number z = rw z (done starts (omega arith))
 
-pub ruleset numberEnds = (spelled-end, a-number, no-number, end-after)
+pub ruleset numberEnds = (decoded-end, a-number, no-number, end-after)

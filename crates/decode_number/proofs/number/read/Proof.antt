@@ -1,6 +1,6 @@
--- `decode_number::number::read` meets its contract: what is spelled is a number, or why it is none.
+-- `decode_number::number::read` meets its contract: value and end say what the number is, or why it is refused.
 use borrow.Author.Needs.{needs}
-use Rattle.decode_number.proofs.Laws.Spelling.{readings}
+use Rattle.decode_number.proofs.Laws.Decoding.{readings}
 use Rattle.decode_number.proofs.number.read.Statement.{statement}
 use Rattle.decode_number.proofs.number.read.Tie as tie
 
