@@ -29,7 +29,7 @@ enum gubzsenil_result {
     GUBZSENIL_TRUNCATED = 2,      /* the bytes end early */
     GUBZSENIL_MALFORMED = 3,      /* a number is not in its one form */
     GUBZSENIL_UNKNOWN_KIND = 4,   /* no term, process or formula has this kind */
-    GUBZSENIL_NAME_RANGE = 5,     /* a public name is over 255 */
+    GUBZSENIL_NAME_RANGE = 5,     /* a public name is over 16,383; reserved: no bytes hold one, and no verdict is 5 */
     GUBZSENIL_OUT_OF_SCOPE = 6,   /* a variable or an alias is not in scope */
     GUBZSENIL_TOO_DEEP = 7,       /* nested too deep */
     GUBZSENIL_TRAILING = 8,       /* bytes are left over */

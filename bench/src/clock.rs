@@ -15,7 +15,15 @@ pub struct Times {
     pub visits: u32,
     pub library: Duration,
     pub second: Duration,
-    pub before: Option<Duration>,
+    pub before: Before,
+}
+
+/// What a call of the earlier library takes.
+pub enum Before {
+    None,
+    Takes(Duration),
+    /// It answers otherwise, so that its time says nothing.
+    Differs,
 }
 
 impl Times {
@@ -26,8 +34,11 @@ impl Times {
 
     /// How many times as fast it is as the earlier one, in a column of its own if there is one.
     pub fn against_before(&self) -> String {
-        self.before
-            .map_or(String::new(), |before| format!(" {:>7.3}", before.as_secs_f64() / self.library.as_secs_f64()))
+        match self.before {
+            Before::None => String::new(),
+            Before::Takes(before) => format!(" {:>7.3}", before.as_secs_f64() / self.library.as_secs_f64()),
+            Before::Differs => format!(" {:>7}", "differs"),
+        }
     }
 
     pub fn per_visit(&self, call: Duration) -> f64 {
@@ -40,28 +51,34 @@ pub fn time(finding: &Finding) -> Times {
     time_all(std::slice::from_ref(finding))
 }
 
-/// All on the same findings. They must agree: a fast wrong answer is none.
+/// All on the same findings. The library and the second checker must agree: a fast wrong answer is none.
 pub fn time_all(findings: &[Finding]) -> Times {
     let mut work = vec![0; 65_536];
     let mut visits = 0;
     for finding in findings {
         let answer = call(library::verdict, finding, &mut work);
-        let others = [verdict::verdict as Judge].into_iter().chain(before::JUDGE);
-        for other in others {
-            assert_eq!(answer, call(other, finding, &mut work), "{}: they do not agree", finding.title);
-        }
+        assert_eq!(answer, call(verdict::verdict, finding, &mut work), "{}: they do not agree", finding.title);
         visits += answer.count;
     }
-    let mut times =
-        Times { visits, library: Duration::MAX, second: Duration::MAX, before: before::JUDGE.map(|_| Duration::MAX) };
+    let before = agreeing(findings, &mut work);
+    let mut times = Times { visits, library: Duration::MAX, second: Duration::MAX, before };
     for _ in 0..ROUNDS {
         times.library = times.library.min(round(library::verdict, findings, &mut work));
-        if let (Some(before), Some(judge)) = (&mut times.before, before::JUDGE) {
+        if let (Before::Takes(before), Some(judge)) = (&mut times.before, before::JUDGE) {
             *before = round(judge, findings, &mut work).min(*before);
         }
         times.second = times.second.min(round(verdict::verdict, findings, &mut work));
     }
     times
+}
+
+/// Whether there is an earlier library, and it agrees on all the findings.
+fn agreeing(findings: &[Finding], work: &mut [u8]) -> Before {
+    let Some(judge) = before::JUDGE else { return Before::None };
+    if findings.iter().all(|finding| call(judge, finding, work) == call(library::verdict, finding, work)) {
+        return Before::Takes(Duration::MAX);
+    }
+    Before::Differs
 }
 
 fn call(judge: Judge, finding: &Finding, work: &mut [u8]) -> Answer {

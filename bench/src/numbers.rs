@@ -1,5 +1,5 @@
-//! Models of 4,096 bytes full of public names, whose numbers have one byte, two, or one and two without pattern (document 02, 2.4). Kinds
-//! always have one.
+//! Models of 4,096 bytes full of public names, whose numbers have one byte, two, or one and two without pattern (document 02, 2.4), or that
+//! are any there are (2.2). Kinds always have one byte.
 
 use crate::build::*;
 use crate::findings::Finding;
@@ -13,16 +13,18 @@ pub enum Width {
     One,
     Two,
     Mixed,
+    Any,
 }
 
 impl Width {
-    pub const ALL: [Width; 3] = [Width::One, Width::Two, Width::Mixed];
+    pub const ALL: [Width; 4] = [Width::One, Width::Two, Width::Mixed, Width::Any];
 
     pub fn title(self) -> &'static str {
         match self {
             Width::One => "names of one byte",
             Width::Two => "names of two bytes",
             Width::Mixed => "of one and two without pattern",
+            Width::Any => "names up to 16,383",
         }
     }
 
@@ -32,6 +34,7 @@ impl Width {
             Width::One => (0, 127),
             Width::Two => (128, 255),
             Width::Mixed => (0, 255),
+            Width::Any => (0, 16_383),
         };
         name(random.between(low, high) as u16)
     }
@@ -149,7 +152,7 @@ mod tests {
             let long = |width| bytes(&findings(width)) - numbers(&findings(width));
             let names = |width| numbers(&findings(width)) / 3;
             assert_eq!(long(Width::One), 0);
-            assert!(long(Width::Two) > 9 * names(Width::Two) / 10);
+            assert!([Width::Two, Width::Any].iter().all(|width| long(*width) > 9 * names(*width) / 10));
             let (mixed, half) = (long(Width::Mixed), names(Width::Mixed) / 2);
             assert!(9 * half / 10 < mixed && mixed < 11 * half / 10, "{mixed} of two bytes, half of them is {half}");
         }

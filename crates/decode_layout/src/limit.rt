@@ -5,8 +5,8 @@ pub const SLICE: usize = 4096;
 
 pub const WORK: usize = 65536;
 
-// How many public names there are.
-pub const NAMES: usize = 256;
+// How many public names there are: as many as there are numbers of one or two bytes.
+pub const NAMES: usize = 16384;
 
 // The most nodes of a sort on one path, the most step formulas there, and the most variables in scope.
 pub const TERM_NODES: usize = 8;

@@ -4,6 +4,7 @@ use Prim.Native.Nat.{ℕ, zero, suc}
 use mathlib.Core.Bool.{Bool, true, _&&_}
 use mathlib.Core.List.{List}
 use lib.Dec.{ltb}
+use Rattle.meaning.specs.Bytes.Scope.{largestName}
 use Rattle.meaning.specs.Bytes.Number.{Read, found, andThen, provided}
 use Rattle.meaning.specs.Bytes.Reading.{field}
 use Rattle.decode_number.specs.declared.answer.Refusal.the-variants.{UnknownKind, NameRange, OutOfScope}
@@ -29,7 +30,7 @@ node head table part = andThen head (λ k end. times (parts (layoutOf table k)) 
 
 -- The number of a public name or a variable; the other kinds of terms have none.
 unfoldable pub leaf : (scope : ℕ) → List ℕ → ℕ → (at : ℕ) → Extent
-leaf scope s zero at = extent (numberBelow 256 NameRange s at)
+leaf scope s zero at = extent (numberBelow (suc largestName) NameRange s at)
 leaf scope s (suc zero) at = extent (numberBelow scope OutOfScope s at)
 leaf scope s (suc (suc k)) at = found tt at
 

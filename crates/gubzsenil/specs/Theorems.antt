@@ -13,6 +13,12 @@ use Rattle.meaning.specs.Theorems.{Acceptable}
 use Rattle.verdict_input.specs.declared.answer.Answer.{Answer}
 use Rattle.gubzsenil.specs.Verdict.{Promise}
 
+-- Request 2.2: the result is never 5.
+abbrev pub NeverNameRange : Type 0
+NeverNameRange =
+    (first second formula work : List ℕ) (budget : ℕ) (r : Answer) (after : List ℕ)
+    → Promise first second formula work budget r after → ¬ (r .result ≡ 5)
+
 -- Demand 3, first half: result 0 excludes every strong early bisimulation between the start states.
 abbrev pub AcceptedExcludes {ℓ} : Type (ℓ + 1)
 AcceptedExcludes =

@@ -20,6 +20,8 @@ use Rattle.verdict_input.specs.Answer.{numbers}
 pub record Promise (first second formula work : List ℕ) (budget : ℕ) (r : Answer) (after : List ℕ) : Type 0 where
   -- The four numbers are those of the verdict.
   pub answer : numbers r ≡ verdict first second formula (length work) budget
+  -- Request 2.2: the result is never 5.
+  pub never-name-range : ¬ (r .result ≡ 5)
   -- Every work byte is as the verdict leaves it.
   pub bytes : after ≡ workAfter first second formula work
   -- Demand 3, first half: result 0 excludes every strong early bisimulation between the start states that is given by a test. A clause of a

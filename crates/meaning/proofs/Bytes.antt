@@ -2,4 +2,5 @@
 pub mod Reader
 pub mod Reading
 pub mod Refusal
+pub mod NameRange
 pub mod Formed

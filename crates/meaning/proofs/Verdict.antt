@@ -2,6 +2,7 @@
 -- accepted finding excludes.
 pub mod Sorting
 pub mod Work
+pub mod NameRange
 use mathlib.Core.Path.{_≡_, refl, sym, ap, ap₂, _∙_, subst}
 use mathlib.Core.Logic.{_↔_}
 use mathlib.Core.Bool.{Bool, true, false, _||_}

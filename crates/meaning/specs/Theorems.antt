@@ -17,7 +17,7 @@ use Rattle.meaning.specs.Bytes.Scope.{FormulaScoped}
 use Rattle.meaning.specs.Bytes.WellFormed.{Bytes, IsModel, IsFormula}
 use Rattle.meaning.specs.Bytes.Number.{found, refused}
 use Rattle.meaning.specs.Bytes.Reading.{readModel, readFormula}
-use Rattle.meaning.specs.Bytes.Refusal.{Refusal, process, formula}
+use Rattle.meaning.specs.Bytes.Refusal.{Field, Refusal, process, formula}
 use Rattle.meaning.specs.Places.{Some, Every, OneToOne}
 use Rattle.meaning.specs.Steps.State.{Thread, State, start}
 use Rattle.meaning.specs.Steps.Invariant.{ThreadStored, Invariant}
@@ -70,6 +70,10 @@ abbrev pub FormulasFormed : Type 0
 FormulasFormed =
     (s : List ℕ) → Bytes s → ((F : Formula) × IsFormula s F) ↔ ((number place : ℕ) → ¬ (Refusal s (formula 48 16 0) number place))
 
+-- Request 2.2: every number that stands in a slice of bytes is a public name, so no slice is refused with 5.
+abbrev pub NeverNameRange : Type 0
+NeverNameRange = (s : List ℕ) → Bytes s → (root : Field) (place : ℕ) → ¬ (Refusal s root 5 place)
+
 -- Demand 2, steps: what the rules derive and what the list has are the same, one for one. Whatever property P of states is asked for,
 -- the derivations that lead to a state with P and the places of the list with P correspond one to one.
 abbrev pub StepsEnumerated : Type 1
@@ -118,6 +122,12 @@ abbrev pub VerdictExact : Type 0
 VerdictExact =
     (first second formula : List ℕ) (work budget : ℕ) → Bytes first → Bytes second → Bytes formula
     → (a : Answer) → (verdict first second formula work budget ≡ a) ↔ Answered first second formula work budget a
+
+-- Request 2.2: and so 5 is the answer to no input.
+abbrev pub NeverAnsweredNameRange : Type 0
+NeverAnsweredNameRange =
+    (first second formula : List ℕ) (work budget : ℕ) → Bytes first → Bytes second → Bytes formula
+    → ¬ (verdict first second formula work budget .result ≡ 5)
 
 -- Demand 3, first half: result 0 excludes every strong early bisimulation between the start states.
 abbrev pub AcceptedExcludes {ℓ} : Type (ℓ + 1)

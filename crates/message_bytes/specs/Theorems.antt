@@ -8,6 +8,7 @@ use lib.ListN.{length}
 use Rattle.meaning.specs.Messages.Term.{Name, public, private, Message, leaf, proj, binary, nodes}
 use Rattle.meaning.specs.Messages.Equation.{Equal, Normal}
 use Rattle.meaning.specs.Messages.Normal.{equal}
+use Rattle.meaning.specs.Bytes.Scope.{largestName}
 use Rattle.meaning.specs.Bytes.Standing.{Stands}
 use Rattle.meaning.specs.Bytes.WellFormed.{Bytes}
 use Rattle.message_bytes.specs.Encoding.{encodeMessage}
@@ -27,9 +28,9 @@ RunsEnd =
     (s : List ℕ) (at : ℕ) (m n : Message) (i j : ℕ) → Stands s at (encodeMessage m) i → Stands s at (encodeMessage n) j
     → (m ≡ n) × (i ≡ j)
 
--- Names that two bytes have room for: public names to 16,383, the most that document 01's numbers reach, and private names to 32,759.
+-- Names that two bytes have room for: all public names, and private names to 32,759.
 abbrev pub SmallName : Name → Type 0
-SmallName (public n) = n ≤ 16383
+SmallName (public n) = n ≤ largestName
 SmallName (private n) = n ≤ 32759
 
 abbrev pub SmallNames : Message → Type 0

@@ -4,6 +4,7 @@ pub mod compare;
 pub mod encoding;
 pub mod generator;
 pub mod library;
+pub mod names;
 pub mod random;
 pub mod run;
 pub mod shares;

@@ -34,14 +34,11 @@ fn compare(findings: u64, seeds: &[u64]) -> ExitCode {
         }
     });
     println!("{findings} findings, seeds {seeds:?}, {:.1} s", start.elapsed().as_secs_f64());
-    print!("{}", run.shares);
+    print!("{}{}", run.shares, run.names);
     println!("{} differences", run.differences);
-    let under_floor = run.shares.under_floor();
+    let under_floor = run.under_floor();
     if !under_floor.is_empty() {
-        println!("under their floor: results {under_floor:?}");
-    }
-    if !run.shares.enough_long() {
-        println!("under their floor: numbers of two bytes");
+        println!("under their floor: {}", under_floor.join(", "));
     }
     if run.passed() {
         ExitCode::SUCCESS

@@ -1,20 +1,40 @@
 //! A comparison over many findings.
 
 use crate::compare::{compare, Checker, Difference};
-use crate::generator;
+use crate::generator::{self, Finding};
+use crate::names::NameShares;
 use crate::shares::Shares;
+use second_checker::verdict::Answer;
 
 /// What a comparison over many findings saw.
 #[derive(Default)]
 pub struct Run {
     pub shares: Shares,
+    pub names: NameShares,
     pub differences: u64,
 }
 
 impl Run {
-    /// Whether there was no difference, and each result and numbers of two bytes came often enough.
+    /// Counts a finding, and the answer that is expected on it.
+    pub fn add(&mut self, finding: &Finding, answer: &Answer) {
+        self.shares.add(finding, answer.result);
+        self.names.add(finding, answer);
+    }
+
+    /// What came less often than it must.
+    pub fn under_floor(&self) -> Vec<String> {
+        let mut under: Vec<String> =
+            self.shares.under_floor().iter().map(|result| format!("result {result}")).collect();
+        if !self.shares.enough_long() {
+            under.push("numbers of two bytes".to_string());
+        }
+        under.extend(self.names.under_floor());
+        under
+    }
+
+    /// Whether there was no difference, and all came often enough.
     pub fn passed(&self) -> bool {
-        self.differences == 0 && self.shares.under_floor().is_empty() && self.shares.enough_long()
+        self.differences == 0 && self.under_floor().is_empty()
     }
 }
 
@@ -27,10 +47,10 @@ pub fn run(findings: u64, seeds: &[u64], tested: Checker, mut report: impl FnMut
         let number = index / seeds.len() as u64;
         let finding = generator::finding(seed, number);
         match compare(seed, number, &finding, tested) {
-            Ok(answer) => run.shares.add(&finding, answer.result),
+            Ok(answer) => run.add(&finding, &answer),
             Err(difference) => {
                 run.differences += 1;
-                run.shares.add(&finding, difference.expected.result);
+                run.add(&finding, &difference.expected);
                 report(&difference);
             }
         }

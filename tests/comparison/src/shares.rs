@@ -3,8 +3,8 @@
 use crate::generator::Finding;
 use std::fmt;
 
-/// The least share of each result, 0 to 13, in hundredths of the findings.
-pub const FLOORS: [f64; 14] = [8.0, 1.5, 1.5, 1.5, 1.5, 1.5, 1.5, 1.5, 1.5, 1.5, 5.0, 5.0, 8.0, 8.0];
+/// The least share of each result, 0 to 13, in hundredths of the findings. No bytes meet 5 (document 02, 2.2).
+pub const FLOORS: [f64; 14] = [8.0, 1.5, 1.5, 1.5, 1.5, 0.0, 1.5, 1.5, 1.5, 1.5, 5.0, 5.0, 8.0, 8.0];
 
 /// The least share of findings that are judged and have a number of two bytes, in hundredths of the findings.
 pub const LONG_FLOOR: f64 = 20.0;

@@ -55,7 +55,7 @@ fn both_decode_every_slice_alike() {
         assert_eq!(by_notation(decoding::formula(&slice)), by_checker(&formula), "{slice:02x?}");
         rules.extend([model.err(), formula.err()].into_iter().flatten().map(|refusal| refusal.rule));
     }
-    assert_eq!(rules, (1..=8).collect());
+    assert_eq!(rules, [1, 2, 3, 4, 6, 7, 8].into());
 }
 
 /// The comparison's encoder writes what the second checker reads.

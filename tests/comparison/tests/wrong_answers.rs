@@ -116,13 +116,13 @@ fn a_difference_can_be_repeated() {
 
 #[test]
 fn a_result_that_never_comes_is_under_its_floor() {
-    for missing in 0..14 {
+    for missing in (0..14).filter(|result| *result != 5) {
         let mut shares = Shares::default();
         let others = (0..14).filter(|result| *result != missing);
         others.for_each(|result| (0..10).for_each(|_| shares.add(&findings()[0], result)));
         assert!(shares.under_floor().contains(&(missing as usize)));
     }
-    assert!(FLOORS.iter().all(|floor| *floor > 0.0));
+    assert!((0..14).all(|result| (FLOORS[result] > 0.0) == (result != 5)));
 }
 
 /// A finding with one public name, whose number is given.
@@ -131,19 +131,22 @@ fn of_name(number: &[u8]) -> Finding {
     Finding { first, second: vec![0], formula: vec![0, 0, 127, 0, 127], ..findings()[0].clone() }
 }
 
-/// A run in which each result came often enough, always on the same finding.
-fn run_on(finding: &Finding) -> Run {
-    let mut run = Run::default();
+/// Shares in which each result came often enough, always on the same finding.
+fn shares_of(finding: &Finding) -> Shares {
+    let mut shares = Shares::default();
     let many = |result| if (1..=9).contains(&result) { 5 } else { 20 };
-    (0..14).for_each(|result| (0..many(result)).for_each(|_| run.shares.add(finding, result)));
-    run
+    (0..14).for_each(|result| (0..many(result)).for_each(|_| shares.add(finding, result)));
+    shares
 }
 
 #[test]
 fn a_run_without_numbers_of_two_bytes_does_not_pass() {
-    let [short, long] = [run_on(&of_name(&[127])), run_on(&of_name(&[128, 1]))];
-    assert!(short.shares.under_floor().is_empty() && !short.shares.enough_long() && !short.passed());
-    assert!(long.shares.enough_long() && long.passed());
+    let [short, long] = [&[127][..], &[128, 1]].map(|number| shares_of(&of_name(number)));
+    assert!(short.under_floor().is_empty() && !short.enough_long());
+    assert!(long.under_floor().is_empty() && long.enough_long());
+    let run = |shares| Run { shares, ..Run::default() };
+    let said = "numbers of two bytes".to_string();
+    assert!(run(short).under_floor().contains(&said) && !run(long).under_floor().contains(&said));
 }
 
 #[test]

@@ -1,4 +1,5 @@
-//! From bytes to trees, and the refusals 1 to 8 (document 01, "Bytes" and "Turned back for the input").
+//! From bytes to trees, and the refusals 1 to 8 (document 01, "Bytes" and "Turned back for the input"). Public names run as far as
+//! numbers do (document 02, 2.2), so that no bytes are refused by rule 5.
 
 use crate::syntax::{Formula, Process, Term};
 
@@ -86,10 +87,7 @@ impl Reader<'_> {
     }
 
     fn name(&mut self) -> Result<Term, Refusal> {
-        let (name, place) = self.number()?;
-        if name > 255 {
-            return Err(Refusal { rule: 5, place });
-        }
+        let (name, _) = self.number()?;
         Ok(Term::Name(name))
     }
 

@@ -36,7 +36,7 @@ fn case_4_budgets() {
 #[test]
 fn case_5_numbers() {
     assert_eq!(judge("02 00 FF 01 00 00 00", "00", TRUE, 9), answer(13, 0, 0, 2));
-    assert_eq!(judge("02 00 80 02 00 00 00", "00", TRUE, 9), answer(5, 1, 2, 0));
+    assert_eq!(judge("02 00 80 02 00 00 00", "00", TRUE, 9), answer(13, 0, 0, 2));
     assert_eq!(judge("02 00 80 00 00 00 00", "00", TRUE, 9), answer(3, 1, 2, 0));
     assert_eq!(judge("", "00", TRUE, 9), answer(2, 1, 0, 0));
 }

@@ -6,7 +6,7 @@ use judge::meaning::{sentence, words, RESULTS};
 use library::Answer;
 use notation::folder::Loaded;
 use std::collections::BTreeSet;
-use support::{bytes, judged, of_slices, written, BUDGET};
+use support::{bytes, judged, nine_nodes, of_slices, written, BUDGET};
 
 fn nothing() -> Loaded {
     of_slices([vec![], vec![], vec![]])
@@ -60,9 +60,9 @@ fn what_is_refused_is_told_in_the_text() {
     let long = (0..11).fold("nil".to_string(), |text, _| format!("({text} |\n {text})"));
     for (text, said) in [
         (
-            "first out(1,\n 256) second nil formula true".to_string(),
-            "Refused by rule 5, at byte 4 of the first model: a public name is over 255; \
-             in finding.txt that is at line 2, column 2.",
+            format!("first out(1,\n {}) second nil formula true", nine_nodes()),
+            "Refused by rule 7, at byte 11 of the first model: it is nested too deep: 9 term nodes on one path, \
+             and 8 are the most; in finding.txt that is at line 2, column 34.",
         ),
         (
             deep,

@@ -17,8 +17,7 @@ impl Random {
     }
 
     fn name(&mut self) -> String {
-        [0, 1, 127, 128, 254, 255, 256, 300][if self.below(12) == 0 { self.below(8) } else { self.below(6) }]
-            .to_string()
+        [0, 1, 127, 128, 255, 256, 16_382, 16_383][self.below(8)].to_string()
     }
 
     /// A term of about eight nodes on a path.
@@ -92,5 +91,5 @@ fn the_text_and_the_library_refuse_alike() {
         let tells = |fault: &Fault| fault.cause == Cause::Rule(answer.result) && fault.place.to_string() == place;
         assert!(reading.faults.iter().any(tells), "{answer} at {place}: {:?}\n{text}", reading.faults);
     }
-    assert!([1, 5, 7, 10].iter().all(|result| seen[*result] > 50), "{seen:?}");
+    assert!([1, 7, 10].iter().all(|result| seen[*result] > 50), "{seen:?}");
 }

@@ -7,7 +7,7 @@ use judge::why::{explain, explanation, Explanation};
 use library::Answer;
 use notation::folder::Loaded;
 use std::path::Path;
-use support::{bytes, judged, of_slices, written, BUDGET};
+use support::{bytes, judged, nine_nodes, of_slices, written, BUDGET};
 
 /// Messages of 3, 7, 15, 31, 63, 127 and 255 nodes.
 const LARGE: &str = "let a = pair(0, 0) in let b = pair(a, a) in let c = pair(b, b) in let d = pair(c, c) in
@@ -198,10 +198,11 @@ fn the_count_that_is_needed() {
 /// Where the input is refused, the rule and its place are told.
 #[test]
 fn what_is_refused() {
-    let text = "first nil second\n out(1, 256) formula true";
-    let said = "\nIn the second model rule 5 is broken at line 2, column 9 of finding.txt: a public name is over 255.";
-    assert_eq!(why(&written(text), 5), said);
-    assert_eq!(why(&bytes(text), 5), said.replace("line 2, column 9 of finding.txt", "byte 4"));
+    let text = &format!("first nil second\n out(1, {}) formula true", nine_nodes());
+    let said = "\nIn the second model rule 7 is broken at line 2, column 41 of finding.txt: \
+                it is nested too deep: 9 term nodes on one path, and 8 are the most.";
+    assert_eq!(why(&written(text), 7), said);
+    assert_eq!(why(&bytes(text), 7), said.replace("line 2, column 41 of finding.txt", "byte 11"));
     assert_eq!(
         why(&of_slices([vec![0], vec![0, 0], vec![]]), 8),
         "\nIn the second model rule 8 is broken at byte 1: bytes are left over."

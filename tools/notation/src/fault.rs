@@ -25,7 +25,7 @@ pub type Within = Option<Arc<Use>>;
 pub enum Cause {
     /// It is not written as the grammar has it.
     Syntax,
-    /// A word stands for nothing, for two things, or for something else.
+    /// A word or a number stands for nothing, for two things, or for something else.
     Scope,
     /// The bytes would break the rule of this number (document 01, "Turned back for the input").
     Rule(u32),

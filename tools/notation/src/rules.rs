@@ -19,7 +19,7 @@ pub fn in_words(rule: u32) -> &'static str {
         2 => "the bytes end early",
         3 => "a number is not in its one form",
         4 => "no such kind is listed",
-        5 => "a public name is over 255",
+        5 => "a public name is over 16,383",
         6 => "a variable or an alias is not in scope",
         7 => "it is nested too deep",
         8 => "bytes are left over",

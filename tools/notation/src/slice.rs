@@ -3,9 +3,6 @@
 use crate::fault::{Place, Within};
 use crate::tree::{Sort, Tree};
 
-/// The largest number that two bytes hold.
-pub const LARGEST_NUMBER: usize = 16_383;
-
 #[derive(Clone, Debug, Default, PartialEq, Eq)]
 pub struct Slice {
     pub bytes: Vec<u8>,

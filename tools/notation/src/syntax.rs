@@ -1,7 +1,7 @@
 //! Terms, processes and formulas as trees, a kind of document 01's "Bytes" for each variant, in its order.
 
-/// The largest public name.
-pub const LARGEST_NAME: u16 = 255;
+/// The largest public name, and the largest number that two bytes hold.
+pub const LARGEST_NAME: u16 = 16_383;
 
 /// A term of a model or a recipe of a formula. `Variable` is a variable in the one and an alias in the other, by its
 /// number.

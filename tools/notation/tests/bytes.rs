@@ -34,6 +34,7 @@ fn kinds_of_processes_and_terms() {
         ("nil", "00"),
         ("new x. nil", "01 00"),
         ("out(0, 255)", "02 00 00 00 ff 01 00"),
+        ("out(256, 16383)", "02 00 80 02 00 ff 7f 00"),
         ("in(9, x). out(x, x)", "03 00 09 02 01 00 01 00 00"),
         ("if fst(1) = snd(2) then new x. nil else nil", "04 03 00 01 04 00 02 01 00 00"),
         ("let x = pair(1, 2) in nil", "05 02 00 01 00 02 00"),

@@ -40,8 +40,8 @@ fn numbers() {
     assert_eq!(model("01 80 80 01"), Some((3, 1)));
     assert_eq!(model("03 00 FF FF 01 00"), Some((3, 2)));
     assert_eq!(model("03 00 FF 01 00"), None);
-    assert_eq!(model("03 00 80 02 00"), Some((5, 2)));
-    assert_eq!(model("03 00 FF 7F 00"), Some((5, 2)));
+    assert_eq!(model("03 00 80 02 00"), None);
+    assert_eq!(model("03 00 FF 7F 00"), None);
 }
 
 #[test]

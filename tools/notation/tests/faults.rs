@@ -15,7 +15,7 @@ fn what_is_said_and_where() {
         ),
         ("first", "line 1, column 6: expected a process, found the end of the text"),
         ("first\n  out(0 1)", "line 2, column 9: expected `,`, found `1`"),
-        ("first\n  out(0, 256)", "line 2, column 10: a public name is 0 to 255, found 256 (rule 5)"),
+        ("first\n  out(0, 16384)", "line 2, column 10: a public name is 0 to 16383, found 16384"),
         ("first in(0, 1)", "line 1, column 13: expected a word to bind, found `1`"),
         ("first new x nil", "line 1, column 13: expected `,` or `.`, found `nil`"),
         ("first if 0 = 0 then nil second", "line 1, column 25: expected `else`, found `second`: an `if` has both branches, the second may be `else nil`"),

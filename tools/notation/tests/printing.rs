@@ -27,7 +27,7 @@ fn processes(bound: usize, depth: usize) -> Vec<Process> {
     if depth < 2 {
         return all;
     }
-    let term = || if bound > 0 { Term::Variable(bound - 1) } else { Term::Name(255) };
+    let term = || if bound > 0 { Term::Variable(bound - 1) } else { Term::Name(16_383) };
     let (same, deeper) = (processes(bound, depth - 1), processes(bound + 1, depth - 1));
     for then in deeper {
         all.push(Process::New(Box::new(then.clone())));
@@ -48,7 +48,7 @@ fn processes(bound: usize, depth: usize) -> Vec<Process> {
 
 /// Formulas of at most `depth` nodes on a path, with one choice of terms for each kind, and two equations.
 fn formulas(bound: usize, depth: usize) -> Vec<Formula> {
-    let term = || if bound > 0 { Term::Variable(bound - 1) } else { Term::Name(255) };
+    let term = || if bound > 0 { Term::Variable(bound - 1) } else { Term::Name(16_383) };
     let mut all = vec![Formula::Equal(Term::Name(0), Term::Name(0)), Formula::Equal(term(), Term::Name(1))];
     if depth < 2 {
         return all;

@@ -107,34 +107,37 @@ fn the_place_of_a_byte_too_many() {
 
 #[test]
 fn public_names() {
-    assert_eq!(broken(&format!("first out(1, 255) {TRUE}")), Vec::<String>::new());
-    let said = "line 1, column 14: a public name is 0 to 255, found 256 (rule 5)";
-    assert_eq!(broken(&format!("first out(1, 256) {TRUE}")), [said]);
-    let text = format!("first out(1, 16384) {TRUE}");
-    assert!(notation::reading(&text).finding.is_none(), "no two bytes hold it");
-    // A word for such a name is a fault, used or not, though the bytes have it only where it is used.
-    let text = format!("names c = 256 first nil {TRUE}");
-    assert!(notation::reading(&text).finding.is_none());
-    assert_eq!(
-        told(&notation::reading(&text).faults),
-        ["line 1, column 11: a public name is 0 to 255, found 256 (rule 5)"]
-    );
+    for name in [255, 256, 16_383] {
+        assert_eq!(
+            broken(&format!("names c = {name} first out(c, 1) | out(1, {}) {TRUE}", name - 1)),
+            Vec::<String>::new()
+        );
+    }
+    // No two bytes hold a larger one. A word for it is a fault, used or not.
+    for (text, said) in [
+        ("first out(1, 16384)", "line 1, column 14: a public name is 0 to 16383, found 16384"),
+        ("names c = 16384 first nil", "line 1, column 11: a public name is 0 to 16383, found 16384"),
+    ] {
+        let reading = notation::reading(&format!("{text} {TRUE}"));
+        assert!(reading.finding.is_none());
+        assert_eq!(told(&reading.faults), [said]);
+    }
 }
 
-/// Two rules that are broken at one place are both told.
+/// Two faults at one place are both told.
 #[test]
-fn two_rules_at_one_place() {
-    let deep = format!("first out(1, {}) {TRUE}", term(9).replace('1', "256"));
-    let said = broken(&deep);
+fn two_faults_at_one_place() {
+    let deep = format!("first out(1, {}) {TRUE}", term(9).replace('1', "16384"));
+    let said = told(&notation::reading(&deep).faults);
     assert_eq!(said.len(), 2, "{said:?}");
-    assert!(said[0].contains("256 (rule 5)") && said[1].contains("9 term nodes"), "{said:?}");
+    assert!(said[0].contains("found 16384") && said[1].contains("9 term nodes"), "{said:?}");
 }
 
 /// Faults of all sorts in one text, told in the order of their places; what is in an abbreviation is told once.
 #[test]
 fn many_faults_in_one_text() {
     let text = format!(
-        "names c = 0, d = 0\nA = out(c, {})\nfirst A | A | out(c, x)\nsecond new c. out(y, 256) formula <tau] true",
+        "names c = 0, d = 0\nA = out(c, {})\nfirst A | A | out(c, x)\nsecond new c. out(y, 16384) formula <tau] true",
         term(9)
     );
     let faults = told(&notation::reading(&text).faults);
@@ -147,8 +150,8 @@ fn many_faults_in_one_text() {
             "line 3, column 22: unknown word `x`: it is no public name, and nothing around binds it (rule 6)",
             "line 4, column 12: `c` stands for something here already",
             "line 4, column 19: unknown word `y`: it is no public name, and nothing around binds it (rule 6)",
-            "line 4, column 22: a public name is 0 to 255, found 256 (rule 5)",
-            "line 4, column 39: expected `>`, found `]`: the `<` at line 4, column 35 is not closed",
+            "line 4, column 22: a public name is 0 to 16383, found 16384",
+            "line 4, column 41: expected `>`, found `]`: the `<` at line 4, column 37 is not closed",
         ]
     );
 }

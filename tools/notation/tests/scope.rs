@@ -25,8 +25,8 @@ fn two_sides_may_bind_one_word() {
 
 #[test]
 fn names_stand_for_numbers() {
-    let text = "names c = 3, key = 255 first out(c, key) second nil formula <out c x> x = key";
-    same(text, "first out(3, 255) second nil formula <out 3 x> x = 255");
+    let text = "names c = 3, key = 16383 first out(c, key) second nil formula <out c x> x = key";
+    same(text, "first out(3, 16383) second nil formula <out 3 x> x = 16383");
 }
 
 #[test]

@@ -5,6 +5,7 @@ use mathlib.Core.List.{List}
 use Prim.Native.Nat.{ℕ, zero, suc}
 use native.Mathlib.Omega.{arith}
 use borrow.Author.Tests.{lt-ltb}
+use Rattle.meaning.specs.Bytes.Scope.{largestName}
 use Rattle.meaning.specs.Bytes.Number.{found, refused, andThen}
 use Rattle.decode_number.specs.Answer.{Extent, refusalNumber, answer, bounded, extent}
 use Rattle.decode_number.specs.Bounded.{numberBelow}
@@ -45,7 +46,7 @@ module _ (kinds left : ℕ) (room : ℕ → Bool) (own : ℕ → ℕ → Extent)
 
 -- The number of a public name, of a variable, and of the kinds that have none.
 pub leaf-name : (scope : ℕ) (s : List ℕ) (k at : ℕ) {x : Extent}
-    → k ≡ 0 → x ≡ extent (numberBelow 256 NameRange s at) → x ≡ leaf scope s k at
+    → k ≡ 0 → x ≡ extent (numberBelow (suc largestName) NameRange s at) → x ≡ leaf scope s k at
 unfolding leaf
 leaf-name scope s k at e h = rw e h
 

@@ -6,6 +6,7 @@ use Prim.Native.Nat.{ℕ, zero, suc, _-_, compare·suc-suc}
 use native.Mathlib.Omega.{arith}
 use lib.Dec.{T, leb, ltb}
 use Rattle.meaning.specs.Messages.Term.{Side, fst, snd, enc, dec, Binary, pair, cipher, mac, name, variable, leaf as leafOf}
+use Rattle.meaning.specs.Bytes.Scope.{largestName}
 use Rattle.meaning.specs.Bytes.Kind.{TermKind, termKinds}
 use Rattle.meaning.specs.Bytes.Number.{Read, found, refused, andThen, provided, number}
 use Rattle.meaning.specs.Bytes.Reading.{always, termFields, term}
@@ -30,8 +31,8 @@ unfolding andThen extent
 number-alike (found n end) test other refusal at made same = rw (← same n) (number-tested (test n) refusal at n end (made n))
 number-alike (refused number place) test other refusal at made same = both-refused
 
-up-to-255 : (n : ℕ) → leb n 255 ≡ ltb n 256
-up-to-255 n = rw (compare·suc-suc n 255)
+up-to-largest : (n : ℕ) → leb n largestName ≡ ltb n (suc largestName)
+up-to-largest n = rw (compare·suc-suc n largestName)
 
 -- Terms.
 module _ (left scope : ℕ) (s : List ℕ) where
@@ -50,7 +51,7 @@ module _ (left scope : ℕ) (s : List ℕ) where
       (λ _ end. times (parts (layoutOf termLayouts k)) (λ e. extent (term left scope s e)) end))
   unfolding termFields leaf numberBelow andThen times
   term-rows =
-      (refl, λ t end. number-alike (number s end) (λ n. leb n 255) (λ n. ltb n 256) 5 end (λ n. leafOf (name n)) up-to-255)
+      (refl, λ t end. number-alike (number s end) _ _ 5 end (λ n. leafOf (name n)) up-to-largest)
       also (
         refl,
         λ t end.

@@ -17,6 +17,7 @@ use Rattle.meaning.specs.Steps.State.{start}
 use Rattle.meaning.specs.Verdict.{Input as Trees, good, bad, workBytes, input, verdictOn, verdict, workOn, workAfter}
 use Rattle.meaning.specs.Verdict.Answered.{Formed, Sorted, formed}
 use Rattle.meaning.proofs.Test.{is-false}
+use Rattle.meaning.proofs.Verdict.NameRange.{neverAnsweredNameRange}
 use Rattle.meaning.proofs.Verdict.Sorting.{sorted, sorted-once}
 use Rattle.decode_number.proofs.Theorems.{never}
 use Rattle.decode_slice.proofs.Theorems.{bytes-of}
@@ -82,9 +83,11 @@ module _ (s₁ s₂ s₃ work : List ℕ) (budget : ℕ) (slices : Slices s₁ s
   unfolding verdict workAfter
   promised {r} {after} i e f g =
       let same : numbers r ≡ verdict s₁ s₂ s₃ (length work) budget = f ∙ ap (λ x. verdictOn x budget) (sym e) in
+      let never-five = neverAnsweredNameRange s₁ s₂ s₃ (length work) budget (slices .first) (slices .second) (slices .third) in
       let accepts = accepted-by-numbers s₁ s₂ s₃ (length work) budget (slices .first) (slices .second) (slices .third) r same in
       record {
         answer = same;
+        never-name-range = λ five. never-five (sym (ap (λ a. a .result) same) ∙ five);
         bytes = g ∙ ap (λ x. workOn x work) (sym e);
         excludes = λ zero P Q p q R B. is-false (R (start P) (start Q)) (acceptable-excludes (accepts .0 zero) P Q p q (λ S U. T (R S U)) B);
         accepts = accepts;

@@ -25,7 +25,7 @@ ranked-result false false false s count budget = inr (omega arith)
 ranked-result false false true true count budget = inr (omega arith)
 ranked-result false false true false count budget = inl refl
 
-judged-result : (P Q : Process) (F : Formula) (budget : ℕ) → (judged P Q F budget .result ≡ 0) ⊎ (10 ≤ judged P Q F budget .result)
+pub judged-result : (P Q : Process) (F : Formula) (budget : ℕ) → (judged P Q F budget .result ≡ 0) ⊎ (10 ≤ judged P Q F budget .result)
 unfolding judged
 judged-result P Q F budget =
     let j = judgeModel F P in

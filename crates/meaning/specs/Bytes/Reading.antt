@@ -9,6 +9,7 @@ use lib.ListN.{length, getElem?}
 use Rattle.meaning.specs.Messages.Term.{Term, leaf, proj, binary, name, variable}
 use Rattle.meaning.specs.Bytes.Process.{Prefix, Process}
 use Rattle.meaning.specs.Bytes.Formula.{Label, Formula}
+use Rattle.meaning.specs.Bytes.Scope.{largestName}
 use Rattle.meaning.specs.Bytes.Number.{Read, found, refused, andThen, provided, number}
 use Rattle.meaning.specs.Bytes.Kind.{TermKind, termKinds, ProcessKind, processKinds, FormulaKind, formulaKinds}
 
@@ -31,7 +32,7 @@ always k = true
 
 -- The fields of a term, with the reader of its parts.
 unfoldable pub termFields : (ℕ → Read Term) → (scope : ℕ) → List ℕ → TermKind → ℕ → Read Term
-termFields part scope s TermKind.name at = andThen (number s at) (λ n end. provided (leb n 255) 5 at (leaf (name n)) end)
+termFields part scope s TermKind.name at = andThen (number s at) (λ n end. provided (leb n largestName) 5 at (leaf (name n)) end)
 termFields part scope s TermKind.variable at =
     andThen (number s at) (λ k end. provided (ltb k scope) 6 at (leaf (variable k)) end)
 termFields part scope s (TermKind.proj side) at = andThen (part at) (λ t end. found (proj side t) end)

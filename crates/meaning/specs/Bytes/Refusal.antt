@@ -5,6 +5,7 @@ use Prim.Native.Nat.{ℕ, suc, _≤_, _<_, _-_}
 use mathlib.Core.List.{List, [], _∷_, _++_}
 use lib.ListN.{length, drop, getElem?}
 use mathlib.Core.Option.{some}
+use Rattle.meaning.specs.Bytes.Scope.{largestName}
 use Rattle.meaning.specs.Bytes.Kind.{TermKind, termKinds, ProcessKind, processKinds, FormulaKind, formulaKinds}
 use Rattle.meaning.specs.Bytes.Number.{found, number}
 
@@ -55,7 +56,7 @@ pub data StepKind : FormulaKind → Type 0 where
 -- The fields that are due at a position, once all before it has been gone through.
 pub data Due (s : List ℕ) (root : Field) : ℕ → List Field → Type 0 where
   start : length s ≤ 4096 → Due s root 0 (root ∷ [])
-  named : {p n e : ℕ} {fs : List Field} → Due s root p (name ∷ fs) → number s p ≡ found n e → n ≤ 255 → Due s root e fs
+  named : {p n e : ℕ} {fs : List Field} → Due s root p (name ∷ fs) → number s p ≡ found n e → n ≤ largestName → Due s root e fs
   indexed : {p k e scope : ℕ} {fs : List Field} → Due s root p (index scope ∷ fs) → number s p ≡ found k e → k < scope → Due s root e fs
   in-term : {p n e left scope : ℕ} {k : TermKind} {fs : List Field}
       → Due s root p (term (suc left) scope ∷ fs) → number s p ≡ found n e → getElem? termKinds n ≡ some k
@@ -99,7 +100,7 @@ pub data Refusal (s : List ℕ) (root : Field) : (number place : ℕ) → Type 0
   ended-early : {p : ℕ} {f : Field} {fs : List Field} → Due s root p (f ∷ fs) → EndsEarly (drop p s) → Refusal s root 2 (length s)
   bad-form : {p : ℕ} {f : Field} {fs : List Field} → Due s root p (f ∷ fs) → Malformed (drop p s) → Refusal s root 3 p
   unlisted-kind : {p k e : ℕ} {f : Field} {fs : List Field} → Due s root p (f ∷ fs) → number s p ≡ found k e → Unlisted f k → Refusal s root 4 p
-  name-over : {p n e : ℕ} {fs : List Field} → Due s root p (name ∷ fs) → number s p ≡ found n e → 255 < n → Refusal s root 5 p
+  name-over : {p n e : ℕ} {fs : List Field} → Due s root p (name ∷ fs) → number s p ≡ found n e → largestName < n → Refusal s root 5 p
   out-of-scope : {p k e scope : ℕ} {fs : List Field} → Due s root p (index scope ∷ fs) → number s p ≡ found k e → scope ≤ k → Refusal s root 6 p
   too-deep : {p k e : ℕ} {f : Field} {fs : List Field} → Due s root p (f ∷ fs) → number s p ≡ found k e → TooDeep f k → Refusal s root 7 p
   left-over : {p : ℕ} → Due s root p [] → p < length s → Refusal s root 8 p

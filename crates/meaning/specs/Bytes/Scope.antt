@@ -4,9 +4,13 @@ use Rattle.meaning.specs.Messages.Term.{Term, Leaf, leaf, proj, binary, 
 use Rattle.meaning.specs.Bytes.Process.{Prefix, Process, nil, new, act, if, let-in, par, repl}
 use Rattle.meaning.specs.Bytes.Formula.{Label, Formula}
 
--- Public names run from 0 to 255; of the variables or aliases, those below n are in scope.
+-- Public names run from 0 to this one, the largest number that two bytes hold.
+abbrev pub largestName : ℕ
+largestName = 16383
+
+-- Of the variables or aliases, those below n are in scope.
 abbrev pub LeafScoped : ℕ → Leaf → Type 0
-LeafScoped n (name a) = a ≤ 255
+LeafScoped n (name a) = a ≤ largestName
 LeafScoped n (variable k) = k < n
 
 abbrev pub TermScoped : ℕ → Term → Type 0

@@ -21,7 +21,7 @@ bytes =
     ∷ refusedAs (0x80 ∷ 0x01 ∷ []) 4 0
     ∷ refusedAs (0 ∷ 0 ∷ []) 8 1
     -- 7 at the kind comes before what is wrong in its fields: a ninth term node, a thirteenth variable.
-    ∷ refusedAs (2 ∷ replicate 8 3 ++ (0 ∷ 0x80 ∷ 0x02 ∷ [])) 7 9
+    ∷ refusedAs (2 ∷ replicate 8 3 ++ (0 ∷ 0x80 ∷ 0x00 ∷ [])) 7 9
     ∷ refusedAs (replicate 12 1 ++ (3 ∷ 0x80 ∷ 0x80 ∷ [])) 7 12
     ∷ judgedOn (news 12 nil) (Formula.not (onOutput (Formula.equal d d))) 13 4
     -- 64 process nodes on a path, nil among them, and 65.

@@ -17,7 +17,8 @@ cases =
     -- 5: numbers.
     ∷ numbered (0xFF ∷ 0x01 ∷ []) 255 2
     ∷ answered (2 ∷ 0 ∷ 0xFF ∷ 0x01 ∷ 0 ∷ 0 ∷ 0 ∷ []) idle (3 ∷ 0 ∷ 0xFF ∷ 0x01 ∷ 0 ∷ 0 ∷ 0 ∷ 0 ∷ 0 ∷ []) work budget 0 0 0 3
-    ∷ refusedAs (2 ∷ 0 ∷ 0x80 ∷ 0x02 ∷ 0 ∷ 0 ∷ 0 ∷ []) 5 2
+    ∷ numbered (0x80 ∷ 0x02 ∷ []) 256 2
+    ∷ answered (2 ∷ 0 ∷ 0x80 ∷ 0x02 ∷ 0 ∷ 0 ∷ 0 ∷ []) idle (3 ∷ 0 ∷ 0x80 ∷ 0x02 ∷ 0 ∷ 0 ∷ 0 ∷ 0 ∷ 0 ∷ []) work budget 0 0 0 3
     ∷ answered idle (2 ∷ 0 ∷ 0x80 ∷ 0x00 ∷ 0 ∷ 0 ∷ 0 ∷ []) noOutput work budget 3 2 2 0
     ∷ answered idle output [] work budget 2 3 0 0
     -- 6: messages.

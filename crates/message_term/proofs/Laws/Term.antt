@@ -5,6 +5,7 @@ use Prim.Native.Nat.{ℕ, _+_, _-_, _≤_, _<_}
 use native.Mathlib.Omega.{arith}
 use lib.ListN.{length, getD}
 use Rattle.meaning.specs.Messages.Term.{Side, Binary, sideKind, binaryKind, Term, leaf, proj, binary, name, variable}
+use Rattle.meaning.specs.Bytes.Scope.{largestName}
 use Rattle.meaning.specs.Bytes.Encoding.{encodeNumber, encodeTerm}
 use Rattle.meaning.specs.Bytes.Standing.{Stands}
 use Rattle.meaning.proofs.Bytes.Reading.Place.{parts}
@@ -22,7 +23,7 @@ module _ {s : List ℕ} {at left scope next : ℕ} where
 
   -- The number of a name or a variable.
   pub of-name : (n : ℕ) → TermAt s at left scope (leaf (name n)) next
-      → (getD s at 0 ≡ 0) × (n ≤ 255) × Stands s (at + 1) (encodeNumber n) next
+      → (getD s at 0 ≡ 0) × (n ≤ largestName) × Stands s (at + 1) (encodeNumber n) next
   unfolding encodeTerm
   of-name n p =
       let (mid, k, q) = parts (0 ∷ []) (encodeNumber n ∷ []) (p .stands) in

@@ -6,7 +6,7 @@ use crate::encoding;
 use crate::random::Random;
 use second_checker::syntax::{Formula, Process, Term};
 
-/// Damages one of three slices in a way that mostly leads to `rule`, 1 to 8.
+/// Damages one of three slices in a way that mostly leads to `rule`, 1 to 8 but for 5, which no bytes break.
 pub fn damage(random: &mut Random, slices: &mut [Vec<u8>; 3], rule: usize) {
     let index = random.below(3);
     let slice = &mut slices[index];
@@ -14,7 +14,7 @@ pub fn damage(random: &mut Random, slices: &mut [Vec<u8>; 3], rule: usize) {
         1 => lengthen(random, slice),
         2 => shorten(random, slice),
         3 | 4 => other_number(random, slice, rule),
-        5 | 6 => *slice = other_leaf(random, index, rule),
+        6 => *slice = out_of_scope(random, index),
         7 => *slice = too_deep(random, index),
         _ => {
             for _ in 0..random.between(1, 4) {
@@ -77,14 +77,10 @@ fn other_number(random: &mut Random, slice: &mut Vec<u8>, rule: usize) {
     slice.splice(place..=place, bytes);
 }
 
-/// A slice with a name over 255 (5), or a variable or alias out of scope (6).
-fn other_leaf(random: &mut Random, index: usize, rule: usize) -> Vec<u8> {
+/// A slice with a variable or alias out of scope.
+fn out_of_scope(random: &mut Random, index: usize) -> Vec<u8> {
     let in_scope = if random.chance(80) { random.below(4) } else { random.between(10, 12) };
-    let leaf = if rule == 5 {
-        Term::Name(*random.pick(&[256, 257, 300, 16383]))
-    } else {
-        Term::Variable(in_scope + *random.pick(&[0, 0, 0, 1, 9, 300]))
-    };
+    let leaf = Term::Variable(in_scope + *random.pick(&[0, 0, 0, 1, 9, 300]));
     let deep = (0..random.below(7)).fold(leaf, |term, _| wrapped(random, term, in_scope));
     if index < 2 {
         return encoding::process(&(0..in_scope).fold(with_term(random, deep), |process, _| new(process)));
@@ -129,7 +125,7 @@ fn with_recipe(random: &mut Random, recipe: Term) -> Formula {
 
 /// A term one node deeper, with the given one on its left or right.
 fn wrapped(random: &mut Random, term: Term, in_scope: usize) -> Term {
-    let other = if in_scope > 0 { Term::Variable(in_scope - 1) } else { Term::Name(255) };
+    let other = if in_scope > 0 { Term::Variable(in_scope - 1) } else { Term::Name(256) };
     let (term, other) = (Box::new(term), Box::new(other));
     match random.below(6) {
         0 => Term::Fst(term),
@@ -170,7 +166,7 @@ fn faulty_and_deep(random: &mut Random, index: usize) -> Vec<u8> {
         (_, false) => ([vec![3], vec![4; 8]].concat(), 8),
     };
     let last =
-        random.pick(&[vec![], vec![listed], vec![listed - 1], vec![133, 1], vec![128, 0], vec![0, 128, 2]]).clone();
+        random.pick(&[vec![], vec![listed], vec![listed - 1], vec![133, 1], vec![128, 0], vec![0, 128, 0]]).clone();
     [chain, last].concat()
 }
 

@@ -1,24 +1,35 @@
-//! Public names exchanged, so that numbers of one byte and of two stand side by side, and names that agree in their low seven bits.
+//! Public names exchanged, so that numbers of one byte and of two stand side by side, and names that differ in their second byte alone.
 
+use crate::names::WATCHED;
 use crate::random::Random;
 use second_checker::syntax::{Formula, Process, Term};
 
-/// Which name stands for which. No two names become one, so that the same is judged of renamed models.
-pub struct Renaming([u16; 256]);
+/// Pairs of names that are exchanged, one after the other. No two names become one, so that the same is judged of renamed models.
+pub struct Renaming(Vec<(u16, u16)>);
 
 impl Renaming {
-    /// The few names that are used most, exchanged for names on both sides of 128 and at the ends of the range.
+    /// The few names that are used most become names at the ends of their ranges, or names that agree in their low seven bits.
     pub fn new(random: &mut Random) -> Renaming {
-        let mut names: [u16; 256] = std::array::from_fn(|name| name as u16);
+        let mut others = if random.chance(40) { WATCHED.to_vec() } else { alike(random) };
+        let mut renaming = Renaming(Vec::new());
         for name in 0..3 {
-            names.swap(name, *random.pick(&[0, 1, 2, 126, 127, 128, 129, 130, 254, 255]));
+            let other = others.swap_remove(random.below(others.len()));
+            renaming.0.push((renaming.name(name), other));
         }
-        Renaming(names)
+        renaming
+    }
+
+    fn name(&self, name: u16) -> u16 {
+        self.0.iter().fold(name, |name, &(one, other)| match name {
+            name if name == one => other,
+            name if name == other => one,
+            name => name,
+        })
     }
 
     fn term(&self, term: &mut Term) {
         match term {
-            Term::Name(name) => *name = self.0[usize::from(*name)],
+            Term::Name(name) => *name = self.name(*name),
             Term::Variable(_) => {}
             Term::Fst(pair) | Term::Snd(pair) => self.term(pair),
             Term::Pair(left, right) | Term::Enc(left, right) | Term::Dec(left, right) | Term::Mac(left, right) => {
@@ -76,4 +87,10 @@ impl Renaming {
             }
         }
     }
+}
+
+/// Names with the same low seven bits: one of one byte, and of two the first, the last, and some between.
+fn alike(random: &mut Random) -> Vec<u16> {
+    let low = *random.pick(&[0, 1, 127]);
+    [0, 1, 2, 3, 126, 127].map(|high| low + 128 * high).to_vec()
 }

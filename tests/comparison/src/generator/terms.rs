@@ -43,7 +43,7 @@ pub fn name(random: &mut Random) -> Term {
     if random.chance(96) {
         Term::Name(random.below(3) as u16)
     } else {
-        Term::Name(*random.pick(&[3, 127, 128, 129, 254, 255]))
+        Term::Name(*random.pick(&[3, 127, 128, 255, 256, 384, 16_383]))
     }
 }
 

@@ -26,7 +26,7 @@ pub fn finding(random: &mut Random) -> Finding {
         3 => followed(random, models::nested),
         _ => at_borders(random),
     };
-    if random.chance(40) {
+    if random.chance(55) {
         rename(random, &mut trees);
     }
     if random.chance(5) {

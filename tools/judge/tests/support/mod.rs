@@ -25,6 +25,11 @@ pub fn of_slices(slices: [Vec<u8>; 3]) -> Loaded {
     Loaded { slices, text: None, notes: Vec::new(), faults: Vec::new(), warnings: Vec::new() }
 }
 
+/// A term that is nested too deep: nine nodes on a path.
+pub fn nine_nodes() -> String {
+    (0..8).fold("1".to_string(), |term, _| format!("fst({term})"))
+}
+
 /// The library's answer.
 pub fn judged(loaded: &Loaded, budget: u32) -> Answer {
     let [first, second, formula] = &loaded.slices;

@@ -2,7 +2,7 @@
 
 use super::{Bytes, Decoded};
 use crate::rules::{TERM_NODES, TOO_DEEP};
-use crate::syntax::{Term, LARGEST_NAME};
+use crate::syntax::Term;
 
 /// A term where so many variables, or aliases, are in scope.
 pub fn term(bytes: &mut Bytes, scope: usize) -> Decoded<Term> {
@@ -26,8 +26,7 @@ fn below(bytes: &mut Bytes, scope: usize, around: usize) -> Decoded<Term> {
 }
 
 fn name(bytes: &mut Bytes) -> Decoded<Term> {
-    let number = bytes.number()?;
-    Ok(Term::Name(number.unless(number.value > LARGEST_NAME, 5)?.value))
+    Ok(Term::Name(bytes.number()?.value))
 }
 
 fn variable(bytes: &mut Bytes, scope: usize) -> Decoded<Term> {

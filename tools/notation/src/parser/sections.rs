@@ -53,7 +53,7 @@ impl Parser {
             return self.same_name(&other);
         }
         // In the bytes it is only where the word is used.
-        let number = self.public_name(Cause::Scope)?;
+        let number = self.public_name()?;
         if let Some(other) = self.scope.word_of(number).filter(|other| *other != word) {
             let message =
                 format!("`{word}` and `{other}` are one public name, {number}; if so meant: `{word} = {other}`");

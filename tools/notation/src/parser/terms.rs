@@ -4,7 +4,6 @@ use super::{Parser, Read};
 use crate::fault::{Cause, Place};
 use crate::lexer::{Token, RESERVED};
 use crate::scope::{is_abbreviation, Meaning};
-use crate::slice::LARGEST_NUMBER;
 use crate::syntax::LARGEST_NAME;
 use crate::tree::{Kind, Tree};
 
@@ -44,21 +43,19 @@ impl Parser {
         })
     }
 
-    /// A public name's number. One over the limit is noted with this cause.
-    pub(super) fn public_name(&mut self, cause: Cause) -> Read<usize> {
+    /// A public name's number. There are no bytes for one over the limit.
+    pub(super) fn public_name(&mut self) -> Read<usize> {
         let place = self.place();
         let number = self.number()? as usize;
         if number > usize::from(LARGEST_NAME) {
-            // No two bytes hold one over 16,383.
-            let cause = if number > LARGEST_NUMBER { Cause::Scope } else { cause };
-            self.note(place, cause, format!("a public name is 0 to {LARGEST_NAME}, found {number} (rule 5)"));
+            self.note(place, Cause::Scope, format!("a public name is 0 to {LARGEST_NAME}, found {number}"));
         }
         Ok(number)
     }
 
     fn number_as_name(&mut self) -> Read<Tree> {
         let place = self.place();
-        let number = self.public_name(Cause::Rule(5))?;
+        let number = self.public_name()?;
         if let Some(word) = self.scope.word_of(number) {
             let message = format!("the public name {number} is `{word}`; should it be the same here?");
             self.note(place, Cause::Doubt, message);

@@ -5,7 +5,7 @@ pub mod ebnf;
 
 use notation::decoding;
 use notation::fault::Fault;
-use notation::syntax::{Formula, Process, Term};
+use notation::syntax::{Formula, Process, Term, LARGEST_NAME};
 use notation::Finding;
 use std::fs;
 use std::path::{Path, PathBuf};
@@ -103,7 +103,7 @@ impl Random {
             6 => Term::Dec(part(), part()),
             7 => Term::Mac(part(), part()),
             1 if bound > 0 => Term::Variable(self.below(bound)),
-            _ => Term::Name(self.below(256) as u16),
+            _ => Term::Name(self.below(1 + usize::from(LARGEST_NAME)) as u16),
         }
     }
 

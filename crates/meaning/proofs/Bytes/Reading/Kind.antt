@@ -83,7 +83,7 @@ module _ {K : Type 0} {kinds : List K} {code : K → ℕ} (table : Table kinds c
       → Only (λ k end. Stands s at (code k ∷ []) end × T (allowed k)) (kind kinds allowed s at)
   unfolding kind
   kind-sound allowed b at =
-      and-then (number-sound b at) λ n end p. and-then (listed-sound n end p (getElem? kinds n) refl) λ k end q.
+      and-then (number-sound b at) λ n end p. and-then (listed-sound n end (p .0) (getElem? kinds n) refl) λ k end q.
       by-provided (allowed k) 7 at k end (λ t. (q, t)) (λ t. tt)
 
   pub kind-complete : (allowed : K → Bool) {s : List ℕ} {at end : ℕ} (k : K) → getElem? kinds (code k) ≡ some k

@@ -29,9 +29,9 @@ bytes-drop [] (suc at) b = b
 bytes-drop (x ∷ s) zero b = b
 bytes-drop (x ∷ s) (suc at) b = bytes-drop s at (b .1)
 
--- The bytes of the number n stand there.
+-- The bytes of the number n stand there, and it is none that asks for a third.
 abbrev NumberAt : List ℕ → (at n end : ℕ) → Type 0
-NumberAt s at n end = Stands s at (encodeNumber n) end
+NumberAt s at n end = Stands s at (encodeNumber n) end × (n < 16384)
 
 second-sound : (s : List ℕ) (at b : ℕ) (rest : List ℕ) → drop at s ≡ b ∷ rest → 128 ≤ b → b < 256
     → Only (NumberAt s at) (secondByte (length s) at b rest)
@@ -40,9 +40,10 @@ second-sound s at b [] e l h = fails tt
 second-sound s at b (c ∷ rest) e l h =
     by-provided (leb 1 c && leb c 127) 3 at (b - 128 + 128 * c) (at + 2) (λ t.
     let low = leb→le 1 c (and-yes (leb 1 c) (leb c 127) t .0) in
+    let high = leb→le c 127 (and-yes (leb 1 c) (leb c 127) t .1) in
     let first : 128 + (b - 128 + 128 * c) % 128 ≡ b = omega arith in
     let second : (b - 128 + 128 * c) / 128 ≡ c = omega arith in
-    rw (encode-long (b - 128 + 128 * c) (omega arith), first, second) (stands s at (b ∷ c ∷ []) rest e)) (λ t. tt)
+    (rw (encode-long (b - 128 + 128 * c) (omega arith), first, second) (stands s at (b ∷ c ∷ []) rest e), omega arith)) (λ t. tt)
 
 first-sound : (s : List ℕ) (at : ℕ) (rest : List ℕ) → drop at s ≡ rest → Bytes rest
     → Only (NumberAt s at) (firstByte (length s) at rest)
@@ -50,7 +51,7 @@ unfolding firstByte
 first-sound s at [] e h = fails tt
 first-sound s at (b ∷ rest) e h =
     by-test (Only (NumberAt s at)) (ltb b 128)
-    (λ t. holds (rw (encode-short b (ltb→lt b 128 t)) (stands s at (b ∷ []) rest e)))
+    (λ t. holds (rw (encode-short b (ltb→lt b 128 t)) (stands s at (b ∷ []) rest e), omega (arith, ltb→lt b 128 t)))
     (λ t. second-sound s at b rest e (nltb→le b 128 t) (h .0))
 
 pub number-sound : {s : List ℕ} → Bytes s → (at : ℕ) → Only (NumberAt s at) (number s at)

@@ -10,7 +10,7 @@ use lib.ListN.{getElem?}
 use Rattle.meaning.specs.Messages.Term.{Side, fst, snd, enc, dec, Binary, pair, cipher, mac, sideKind, binaryKind}
 use Rattle.meaning.specs.Messages.Term.{Term, leaf, proj, binary, name, variable}
 use Rattle.meaning.specs.Bytes.Encoding.{encodeNumber, encodeTerm}
-use Rattle.meaning.specs.Bytes.Scope.{TermScoped}
+use Rattle.meaning.specs.Bytes.Scope.{largestName, TermScoped}
 use Rattle.meaning.specs.Bytes.Nesting.{termDepth}
 use Rattle.meaning.specs.Bytes.Number.{found, andThen}
 use Rattle.meaning.specs.Bytes.Kind.{TermKind, termKinds}
@@ -34,10 +34,10 @@ module _ {s : List ℕ} (bytes : Bytes s) where
   unfolding termFields encodeTerm
   fields-sound part TermKind.name k =
       and-then (number-sound bytes _) λ n _ p.
-      by-provided (leb n 255) _ _ _ _ (λ t. (k ⨾ p, leb→le n 255 t, omega arith)) (λ t. tt)
+      by-provided (leb n largestName) _ _ _ _ (λ t. (k ⨾ p.0, leb→le n largestName t, omega arith)) (λ t. tt)
   fields-sound {scope} part TermKind.variable k =
       and-then (number-sound bytes _) λ n _ p.
-      by-provided (ltb n scope) _ _ _ _ (λ t. (k ⨾ p, ltb→lt n scope t, omega arith)) (λ t. tt)
+      by-provided (ltb n scope) _ _ _ _ (λ t. (k ⨾ p.0, ltb→lt n scope t, omega arith)) (λ t. tt)
   fields-sound part (TermKind.proj side) k = and-then (part _) λ t _ p. holds (k ⨾ p.0, p.1, omega arith)
   fields-sound part (TermKind.binary b) k =
       and-then (part _) λ t _ p. and-then (part _) λ u _ q. holds (k ⨾ p.0 ⨾ q.0, (p.1, q.1), omega arith)
@@ -73,7 +73,7 @@ term-complete zero scope small t h = absurd (omega (arith, depth-positive t))
 term-complete (suc left) scope small (leaf (name n)) h =
     let (_, k, p) = parts (0 ∷ []) (encodeNumber n ∷ []) h.0 in
     rw (kind-complete termTable always TermKind.name refl tt k, number-complete n (omega arith) p)
-    (provided-found (leb n 255) _ _ _ _ (le→leb n 255 h.1))
+    (provided-found (leb n largestName) _ _ _ _ (le→leb n largestName h.1))
 term-complete (suc left) scope small (leaf (variable n)) h =
     let (_, k, p) = parts (1 ∷ []) (encodeNumber n ∷ []) h.0 in
     rw (kind-complete termTable always TermKind.variable refl tt k, number-complete n (omega arith) p)

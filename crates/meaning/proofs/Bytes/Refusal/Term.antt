@@ -2,6 +2,7 @@
 use Prim.Native.Nat.{ℕ, zero, suc}
 use mathlib.Core.List.{List, _++_}
 use lib.Dec.{leb, ltb, leb→le, ltb→lt, nleb→lt, nltb→le}
+use Rattle.meaning.specs.Bytes.Scope.{largestName}
 use Rattle.meaning.specs.Bytes.Kind.{TermKind, termKinds}
 use Rattle.meaning.specs.Bytes.Number.{Read}
 use Rattle.meaning.specs.Messages.Term.{Term}
@@ -20,7 +21,7 @@ module _ {s : List ℕ} {root : Field} where
   unfolding Reader.termFields
   fields-sound left scope part h TermKind.name at fs d =
       and-then (number-sound d) (λ n end read.
-      by-provided (leb n 255) _ _ _ _ (λ t. named d read (leb→le n 255 t)) (λ t. name-over d read (nleb→lt n 255 t)))
+      by-provided (leb n largestName) _ _ _ _ (λ t. named d read (leb→le n largestName t)) (λ t. name-over d read (nleb→lt n largestName t)))
   fields-sound left scope part h TermKind.variable at fs d =
       and-then (number-sound d) (λ k end read.
       by-provided (ltb k scope) _ _ _ _ (λ t. indexed d read (ltb→lt k scope t)) (λ t. out-of-scope d read (nltb→le k scope t)))

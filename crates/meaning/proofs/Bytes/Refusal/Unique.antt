@@ -8,6 +8,7 @@ use mathlib.Core.Option.{Option, none, some}
 use native.Mathlib.Omega.{arith}
 use borrow.Author.Tests.{le-ltb, lt-leb}
 use lib.ListN.{length, getElem?}
+use Rattle.meaning.specs.Bytes.Scope.{largestName}
 use Rattle.meaning.specs.Bytes.Kind.{termKinds, processKinds, formulaKinds}
 use Rattle.meaning.specs.Bytes.Number.{Read, found, refused, number, firstByte, secondByte}
 use Rattle.meaning.specs.Bytes.Refusal.{Field, termFields, processFields, formulaFields, Binder, StepKind}
@@ -60,7 +61,7 @@ module _ {K : Type 0} (Allowed : K → Type 0) (fields : K → List Field) (at e
 
 -- The way on by a number in a field that is due, with others after it; and by what is read there.
 abbrev byNumber : List Field → Field → (at n end : ℕ) → Way
-byNumber fs Field.name at n end = test (n ≤ 255) (found fs end) (refused 5 at)
+byNumber fs Field.name at n end = test (n ≤ largestName) (found fs end) (refused 5 at)
 byNumber fs (Field.index scope) at n end = test (n < scope) (found fs end) (refused 6 at)
 byNumber fs (Field.term left scope) at n end =
     byKind (λ k. 0 < left) (λ k. termFields (pred left) scope k ++ fs) at end (getElem? termKinds n)
