@@ -1,9 +1,9 @@
-//! Public names in findings (document 02, 2.2): how often those at the ends of their ranges stand in each place, how often an answer hangs
-//! on the second bytes of names, and the least share of both for a comparison to count.
+//! Public names in findings (document 02, 2.2): how often those at the ends of their ranges stand in each place, how often an answer
+//! depends on the second bytes of names, and the least share of both for a comparison to count.
 
 use crate::generator::Finding;
+use crate::places::{self, Place};
 use second_checker::reading;
-use second_checker::syntax::{Formula, Process, Term};
 use second_checker::verdict::{verdict, Answer, WORK_LENGTH};
 use std::collections::BTreeSet;
 use std::fmt;
@@ -11,13 +11,10 @@ use std::fmt;
 /// The first names, the last and the first of one byte and of two, and those around the range that there was before.
 pub const WATCHED: [u16; 7] = [0, 1, 127, 128, 255, 256, 16_383];
 
-/// Where names stand: in the channels of models, in their other terms, in recipes.
-pub const PLACES: [&str; 3] = ["channels", "messages", "recipes"];
-
 /// The least share of findings that are judged and have a watched name in a place, in hundredths of the findings.
 pub const NAME_FLOOR: f64 = 4.0;
 
-/// The least share of findings whose answer hangs on the second bytes of names, in hundredths of the findings.
+/// The least share of findings whose answer depends on the second bytes of names, in hundredths of the findings.
 pub const SECOND_BYTE_FLOOR: f64 = 3.0;
 
 /// Counts up to this one are compared.
@@ -26,7 +23,7 @@ const MOST_VISITS: u32 = 5000;
 #[derive(Clone, Debug, Default, PartialEq, Eq)]
 pub struct NameShares {
     findings: u64,
-    standing: [[u64; WATCHED.len()]; PLACES.len()],
+    standing: [[u64; WATCHED.len()]; Place::ALL.len()],
     second_byte: u64,
 }
 
@@ -41,7 +38,7 @@ impl NameShares {
                 *count += u64::from(names.contains(&name));
             }
         }
-        if names.alike() && hangs_on_second_bytes(finding, answer) {
+        if names.alike() && depends_on_second_bytes(finding, answer) {
             self.second_byte += 1;
         }
     }
@@ -53,12 +50,12 @@ impl NameShares {
     /// What came less often than it must.
     pub fn under_floor(&self) -> Vec<String> {
         let mut under = Vec::new();
-        for (place, counts) in PLACES.iter().zip(&self.standing) {
+        for (place, counts) in Place::ALL.iter().zip(&self.standing) {
             let rare = WATCHED.iter().zip(counts).filter(|(_, count)| self.hundredths(**count) < NAME_FLOOR);
-            under.extend(rare.map(|(name, _)| format!("name {name} in {place}")));
+            under.extend(rare.map(|(name, _)| format!("name {name} in {}", place.title())));
         }
         if self.hundredths(self.second_byte) < SECOND_BYTE_FLOOR {
-            under.push("answers that hang on second bytes".to_string());
+            under.push("answers that depend on second bytes".to_string());
         }
         under
     }
@@ -69,14 +66,14 @@ impl fmt::Display for NameShares {
         write!(out, "judged, with name ")?;
         WATCHED.iter().try_for_each(|name| write!(out, "{name:>9}"))?;
         writeln!(out, "    floor")?;
-        for (place, counts) in PLACES.iter().zip(&self.standing) {
-            write!(out, "in {place:<15}")?;
+        for (place, counts) in Place::ALL.iter().zip(&self.standing) {
+            write!(out, "in {:<15}", place.title())?;
             counts.iter().try_for_each(|count| write!(out, "{:7.2} %", self.hundredths(*count)))?;
             writeln!(out, "{NAME_FLOOR:7.2} %")?;
         }
         writeln!(
             out,
-            "answers that hang on the second bytes of names: {}, {:.2} %, floor {SECOND_BYTE_FLOOR:.2} %",
+            "answers that depend on the second bytes of names: {}, {:.2} %, floor {SECOND_BYTE_FLOOR:.2} %",
             self.second_byte,
             self.hundredths(self.second_byte)
         )
@@ -84,15 +81,19 @@ impl fmt::Display for NameShares {
 }
 
 /// The public names of a finding, by place.
-struct Names([BTreeSet<u16>; PLACES.len()]);
+#[derive(Default)]
+struct Names([BTreeSet<u16>; Place::ALL.len()]);
 
 impl Names {
     /// None where a slice is refused.
     fn of(finding: &Finding) -> Option<Names> {
-        let mut names = Names(Default::default());
-        names.process(&reading::process(&finding.first).ok()?);
-        names.process(&reading::process(&finding.second).ok()?);
-        names.formula(&reading::formula(&finding.formula).ok()?);
+        let mut names = Names::default();
+        let mut each = |place: Place, name: &mut u16| {
+            names.0[place as usize].insert(*name);
+        };
+        places::of_process(&mut reading::process(&finding.first).ok()?, &mut each);
+        places::of_process(&mut reading::process(&finding.second).ok()?, &mut each);
+        places::of_formula(&mut reading::formula(&finding.formula).ok()?, &mut each);
         Some(names)
     }
 
@@ -101,71 +102,6 @@ impl Names {
         let all: BTreeSet<u16> = self.0.iter().flatten().copied().filter(|name| *name > 127).collect();
         let first_bytes: BTreeSet<u16> = all.iter().map(|name| name % 128).collect();
         first_bytes.len() < all.len()
-    }
-
-    fn term(&mut self, place: usize, term: &Term) {
-        match term {
-            Term::Name(name) => drop(self.0[place].insert(*name)),
-            Term::Variable(_) => {}
-            Term::Fst(part) | Term::Snd(part) => self.term(place, part),
-            Term::Pair(left, right) | Term::Enc(left, right) | Term::Dec(left, right) | Term::Mac(left, right) => {
-                self.term(place, left);
-                self.term(place, right);
-            }
-        }
-    }
-
-    fn process(&mut self, process: &Process) {
-        match process {
-            Process::Nil => {}
-            Process::New(then) | Process::Repl(then) => self.process(then),
-            Process::Output { channel, message, then } => {
-                self.term(0, channel);
-                self.term(1, message);
-                self.process(then);
-            }
-            Process::Input { channel, then } => {
-                self.term(0, channel);
-                self.process(then);
-            }
-            Process::Let { value, then } => {
-                self.term(1, value);
-                self.process(then);
-            }
-            Process::If { left, right, then, otherwise } => {
-                self.term(1, left);
-                self.term(1, right);
-                self.process(then);
-                self.process(otherwise);
-            }
-            Process::Par(left, right) => {
-                self.process(left);
-                self.process(right);
-            }
-        }
-    }
-
-    fn formula(&mut self, formula: &Formula) {
-        match formula {
-            Formula::Equal(left, right) => {
-                self.term(2, left);
-                self.term(2, right);
-            }
-            Formula::Not(body) | Formula::SilentStep(body) => self.formula(body),
-            Formula::And(left, right) => {
-                self.formula(left);
-                self.formula(right);
-            }
-            Formula::OutputStep { channel, body } => {
-                self.term(2, channel);
-                self.formula(body);
-            }
-            Formula::InputStep { channel, message, body } => {
-                self.term(2, channel);
-                self.term(2, message);
-                self.formula(body);
-            }
-        }
     }
 }
 
@@ -181,7 +117,7 @@ pub fn without_second_bytes(slice: &[u8]) -> Vec<u8> {
 }
 
 /// Whether the second checker would answer otherwise if names with one first byte were one name.
-fn hangs_on_second_bytes(finding: &Finding, answer: &Answer) -> bool {
+fn depends_on_second_bytes(finding: &Finding, answer: &Answer) -> bool {
     if !matches!(answer.result, 0 | 11..=13) || answer.count > MOST_VISITS {
         return false;
     }

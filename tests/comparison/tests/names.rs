@@ -3,7 +3,8 @@
 use comparison::compare::{compare, outcome, Checker};
 use comparison::encoding;
 use comparison::generator::{self, Finding};
-use comparison::names::{without_second_bytes, NameShares, PLACES, WATCHED};
+use comparison::names::{without_second_bytes, NameShares, WATCHED};
+use comparison::places::Place;
 use second_checker::syntax::{Formula, Process, Term};
 use second_checker::verdict::verdict;
 
@@ -43,17 +44,17 @@ fn a_name_that_never_stands_in_a_place_is_under_its_floor() {
     assert_eq!(under_floor(&of_names([&WATCHED; 3], ALIKE)), Vec::<String>::new());
     for missing in WATCHED {
         let others: Vec<u16> = WATCHED.into_iter().filter(|name| *name != missing).collect();
-        for (place, title) in PLACES.iter().enumerate() {
+        for place in Place::ALL {
             let mut places: [&[u16]; 3] = [&WATCHED; 3];
-            places[place] = &others;
-            assert_eq!(under_floor(&of_names(places, ALIKE)), [format!("name {missing} in {title}")]);
+            places[place as usize] = &others;
+            assert_eq!(under_floor(&of_names(places, ALIKE)), [format!("name {missing} in {}", place.title())]);
         }
     }
 }
 
 #[test]
-fn answers_that_hang_on_no_second_byte_are_under_their_floor() {
-    let said = ["answers that hang on second bytes"];
+fn answers_that_depend_on_no_second_byte_are_under_their_floor() {
+    let said = ["answers that depend on second bytes"];
     assert_eq!(under_floor(&of_names([&WATCHED; 3], [384, 385])), said);
     assert_eq!(under_floor(&of_names([&WATCHED; 3], [384, 384])), said);
 }
@@ -62,7 +63,7 @@ fn answers_that_hang_on_no_second_byte_are_under_their_floor() {
 fn names_count_only_where_a_finding_is_judged() {
     let mut short = of_names([&WATCHED; 3], ALIKE);
     short.work_length -= 1;
-    assert_eq!(under_floor(&short).len(), WATCHED.len() * PLACES.len() + 1);
+    assert_eq!(under_floor(&short).len(), WATCHED.len() * Place::ALL.len() + 1);
 }
 
 #[test]

@@ -4,6 +4,7 @@ use super::borders::bordered;
 use super::renaming::Renaming;
 use super::{formulas, models, mutation, padding, Finding};
 use crate::encoding;
+use crate::places;
 use crate::random::Random;
 use second_checker::judging::Judging;
 use second_checker::reading;
@@ -47,9 +48,10 @@ pub fn finding(random: &mut Random) -> Finding {
 /// The same finding over other public names.
 fn rename(random: &mut Random, (first, second, formula): &mut Trees) {
     let renaming = Renaming::new(random);
-    renaming.process(first);
-    renaming.process(second);
-    renaming.formula(formula);
+    let mut each = |_, name: &mut u16| *name = renaming.name(*name);
+    places::of_process(first, &mut each);
+    places::of_process(second, &mut each);
+    places::of_formula(formula, &mut each);
 }
 
 /// One of the models of document 003.
