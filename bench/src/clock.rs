@@ -20,6 +20,7 @@ pub struct Times {
 
 /// What a call of the earlier library takes.
 pub enum Before {
+    /// There is no earlier library.
     None,
     Takes(Duration),
     /// It answers otherwise, so that its time says nothing.

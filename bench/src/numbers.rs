@@ -1,5 +1,5 @@
-//! Models of 4,096 bytes full of public names, whose numbers have one byte, two, or one and two without pattern (document 02, 2.4), or that
-//! are any there are (2.2). Kinds always have one byte.
+//! Models of 4,096 bytes full of public names, whose numbers have one byte, two, or one and two without pattern (document 02, 2.4), or
+//! are drawn from the whole range (2.2). Kinds always have one byte.
 
 use crate::build::*;
 use crate::findings::Finding;
@@ -7,7 +7,7 @@ use comparison::encoding;
 use comparison::random::Random;
 use second_checker::syntax::{Process, Term};
 
-/// How many bytes the numbers of public names take.
+/// How many bytes the numbers of public names take. Those of the first three are at most 255; the last are drawn from the whole range.
 #[derive(Clone, Copy)]
 pub enum Width {
     One,

@@ -5,7 +5,7 @@ pub const SLICE: usize = 4096;
 
 pub const WORK: usize = 65536;
 
-// How many public names there are: as many as there are numbers of one or two bytes.
+// How many public names there are: as many as there are numbers of one or two bytes, so that no bytes are refused for a name.
 pub const NAMES: usize = 16384;
 
 // The most nodes of a sort on one path, the most step formulas there, and the most variables in scope.

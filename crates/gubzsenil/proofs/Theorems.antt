@@ -14,7 +14,7 @@ use Rattle.meaning.proofs.Logic.Bisimulation.{excluded}
 use Rattle.meaning.proofs.Verdict as verdicts
 use Rattle.verdict_input.specs.declared.answer.Answer.{Answer}
 use Rattle.verdict_input.specs.Answer.{numbers}
-use Rattle.gubzsenil.specs.Theorems.{NeverNameRange, AcceptedExcludes, AcceptedExactly}
+use Rattle.gubzsenil.specs.Theorems.{NeverAnsweredNameRange, AcceptedExcludes, AcceptedExactly}
 
 -- The four numbers alone decide it.
 pub accepted-by-numbers : (first second formula : List ℕ) (work budget : ℕ) → Bytes first → Bytes second → Bytes formula
@@ -36,8 +36,8 @@ acceptable-excludes a P Q p q R B =
     rw (one-model p (a .formed .first), one-model q (a .formed .second))
     (excluded R B (a .F) (start (a .P)) (start (a .Q)) (a .formed .third .scoped) (a .true-of-first) (a .false-of-second))
 
-pub neverNameRange : NeverNameRange
-neverNameRange first second formula work budget r after kept = kept .never-name-range
+pub neverAnsweredNameRange : NeverAnsweredNameRange
+neverAnsweredNameRange first second formula work budget r after kept = kept .never-name-range
 
 pub acceptedExactly : AcceptedExactly
 acceptedExactly first second formula work budget r after kept = kept .accepts

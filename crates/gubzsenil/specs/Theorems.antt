@@ -14,8 +14,8 @@ use Rattle.verdict_input.specs.declared.answer.Answer.{Answer}
 use Rattle.gubzsenil.specs.Verdict.{Promise}
 
 -- Request 2.2: the result is never 5.
-abbrev pub NeverNameRange : Type 0
-NeverNameRange =
+abbrev pub NeverAnsweredNameRange : Type 0
+NeverAnsweredNameRange =
     (first second formula work : List ℕ) (budget : ℕ) (r : Answer) (after : List ℕ)
     → Promise first second formula work budget r after → ¬ (r .result ≡ 5)
 

@@ -5,7 +5,7 @@ pub mod encoding;
 pub mod generator;
 pub mod library;
 pub mod names;
-pub mod places;
 pub mod random;
+pub mod roles;
 pub mod run;
 pub mod shares;

@@ -4,7 +4,6 @@ use crate::compare::{compare, Checker, Difference};
 use crate::generator::{self, Finding};
 use crate::names::NameShares;
 use crate::shares::Shares;
-use second_checker::verdict::Answer;
 
 /// What a comparison over many findings saw.
 #[derive(Default)]
@@ -15,10 +14,10 @@ pub struct Run {
 }
 
 impl Run {
-    /// Counts a finding, and the answer that is expected on it.
-    pub fn add(&mut self, finding: &Finding, answer: &Answer) {
-        self.shares.add(finding, answer.result);
-        self.names.add(finding, answer);
+    /// Counts a finding, by the result that is expected on it.
+    pub fn add(&mut self, finding: &Finding, result: u32) {
+        self.shares.add(finding, result);
+        self.names.add(finding, result);
     }
 
     /// What came less often than it must.
@@ -47,10 +46,10 @@ pub fn run(findings: u64, seeds: &[u64], tested: Checker, mut report: impl FnMut
         let number = index / seeds.len() as u64;
         let finding = generator::finding(seed, number);
         match compare(seed, number, &finding, tested) {
-            Ok(answer) => run.add(&finding, &answer),
+            Ok(answer) => run.add(&finding, answer.result),
             Err(difference) => {
                 run.differences += 1;
-                run.add(&finding, &difference.expected);
+                run.add(&finding, difference.expected.result);
                 report(&difference);
             }
         }

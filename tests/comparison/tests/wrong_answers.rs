@@ -1,9 +1,8 @@
-//! The comparison can fail: wrong checkers are seen, and so are results that never come.
+//! The comparison can fail: wrong checkers are seen.
 
 use comparison::compare::{compare, Checker, Difference};
 use comparison::generator::{self, Finding};
-use comparison::run::{run, Run};
-use comparison::shares::{Shares, FLOORS};
+use comparison::run::run;
 use second_checker::verdict::{verdict, Answer};
 use std::sync::OnceLock;
 
@@ -112,46 +111,4 @@ fn a_difference_can_be_repeated() {
     for part in ["seed 7, finding 3", " 99 ", "first: vec![", "work_length: ", "fill: ", "budget: "] {
         assert!(text.contains(part), "{part} is not in:\n{text}");
     }
-}
-
-#[test]
-fn a_result_that_never_comes_is_under_its_floor() {
-    for missing in (0..14).filter(|result| *result != 5) {
-        let mut shares = Shares::default();
-        let others = (0..14).filter(|result| *result != missing);
-        others.for_each(|result| (0..10).for_each(|_| shares.add(&findings()[0], result)));
-        assert!(shares.under_floor().contains(&(missing as usize)));
-    }
-    assert!((0..14).all(|result| (FLOORS[result] > 0.0) == (result != 5)));
-}
-
-/// A finding with one public name, whose number is given.
-fn of_name(number: &[u8]) -> Finding {
-    let first = [&[2, 0], number, &[0], number, &[0]].concat();
-    Finding { first, second: vec![0], formula: vec![0, 0, 127, 0, 127], ..findings()[0].clone() }
-}
-
-/// Shares in which each result came often enough, always on the same finding.
-fn shares_of(finding: &Finding) -> Shares {
-    let mut shares = Shares::default();
-    let many = |result| if (1..=9).contains(&result) { 5 } else { 20 };
-    (0..14).for_each(|result| (0..many(result)).for_each(|_| shares.add(finding, result)));
-    shares
-}
-
-#[test]
-fn a_run_without_numbers_of_two_bytes_does_not_pass() {
-    let [short, long] = [&[127][..], &[128, 1]].map(|number| shares_of(&of_name(number)));
-    assert!(short.under_floor().is_empty() && !short.enough_long());
-    assert!(long.under_floor().is_empty() && long.enough_long());
-    let run = |shares| Run { shares, ..Run::default() };
-    let said = "numbers of two bytes".to_string();
-    assert!(run(short).under_floor().contains(&said) && !run(long).under_floor().contains(&said));
-}
-
-#[test]
-fn numbers_of_two_bytes_count_only_where_a_finding_is_judged() {
-    let mut refused = Shares::default();
-    (0..100).for_each(|_| refused.add(&of_name(&[128, 1]), 3));
-    assert!(!refused.enough_long());
 }

@@ -19,6 +19,7 @@ pub fn in_words(rule: u32) -> &'static str {
         2 => "the bytes end early",
         3 => "a number is not in its one form",
         4 => "no such kind is listed",
+        // No bytes break it.
         5 => "a public name is over 16,383",
         6 => "a variable or an alias is not in scope",
         7 => "it is nested too deep",

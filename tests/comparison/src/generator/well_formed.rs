@@ -4,8 +4,8 @@ use super::borders::bordered;
 use super::renaming::Renaming;
 use super::{formulas, models, mutation, padding, Finding};
 use crate::encoding;
-use crate::places;
 use crate::random::Random;
+use crate::roles;
 use second_checker::judging::Judging;
 use second_checker::reading;
 use second_checker::syntax::{Formula, Process};
@@ -49,9 +49,9 @@ pub fn finding(random: &mut Random) -> Finding {
 fn rename(random: &mut Random, (first, second, formula): &mut Trees) {
     let renaming = Renaming::new(random);
     let mut each = |_, name: &mut u16| *name = renaming.name(*name);
-    places::of_process(first, &mut each);
-    places::of_process(second, &mut each);
-    places::of_formula(formula, &mut each);
+    roles::of_process(first, &mut each);
+    roles::of_process(second, &mut each);
+    roles::of_formula(formula, &mut each);
 }
 
 /// One of the models of document 003.

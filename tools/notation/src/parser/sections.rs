@@ -52,7 +52,6 @@ impl Parser {
         if let Token::Word(other) = self.token().clone() {
             return self.same_name(&other);
         }
-        // In the bytes it is only where the word is used.
         let number = self.public_name()?;
         if let Some(other) = self.scope.word_of(number).filter(|other| *other != word) {
             let message =

@@ -29,7 +29,7 @@ bytes-drop [] (suc at) b = b
 bytes-drop (x ∷ s) zero b = b
 bytes-drop (x ∷ s) (suc at) b = bytes-drop s at (b .1)
 
--- The bytes of the number n stand there, and it is none that asks for a third.
+-- The bytes of the number n stand there, and it is below 16,384: two bytes hold it.
 abbrev NumberAt : List ℕ → (at n end : ℕ) → Type 0
 NumberAt s at n end = Stands s at (encodeNumber n) end × (n < 16384)
 

@@ -1,48 +1,48 @@
-//! Every public name of a model or a formula, with the place where it stands.
+//! Every public name of a model or a formula, with its role there.
 
 use second_checker::syntax::{Formula, Process, Term};
 
 /// In a channel of a model, in another of its terms, or in a recipe.
 #[derive(Clone, Copy, Debug, PartialEq, Eq)]
-pub enum Place {
+pub enum Role {
     Channel,
     Message,
     Recipe,
 }
 
-impl Place {
-    pub const ALL: [Place; 3] = [Place::Channel, Place::Message, Place::Recipe];
+impl Role {
+    pub const ALL: [Role; 3] = [Role::Channel, Role::Message, Role::Recipe];
 
     pub fn title(self) -> &'static str {
         match self {
-            Place::Channel => "channels",
-            Place::Message => "messages",
-            Place::Recipe => "recipes",
+            Role::Channel => "channels",
+            Role::Message => "messages",
+            Role::Recipe => "recipes",
         }
     }
 }
 
 /// Hands each name of a model to `each`.
-pub fn of_process(process: &mut Process, each: &mut impl FnMut(Place, &mut u16)) {
+pub fn of_process(process: &mut Process, each: &mut impl FnMut(Role, &mut u16)) {
     match process {
         Process::Nil => {}
         Process::New(then) | Process::Repl(then) => of_process(then, each),
         Process::Output { channel, message, then } => {
-            of_term(Place::Channel, channel, each);
-            of_term(Place::Message, message, each);
+            of_term(Role::Channel, channel, each);
+            of_term(Role::Message, message, each);
             of_process(then, each);
         }
         Process::Input { channel, then } => {
-            of_term(Place::Channel, channel, each);
+            of_term(Role::Channel, channel, each);
             of_process(then, each);
         }
         Process::Let { value, then } => {
-            of_term(Place::Message, value, each);
+            of_term(Role::Message, value, each);
             of_process(then, each);
         }
         Process::If { left, right, then, otherwise } => {
-            of_term(Place::Message, left, each);
-            of_term(Place::Message, right, each);
+            of_term(Role::Message, left, each);
+            of_term(Role::Message, right, each);
             of_process(then, each);
             of_process(otherwise, each);
         }
@@ -54,11 +54,11 @@ pub fn of_process(process: &mut Process, each: &mut impl FnMut(Place, &mut u16))
 }
 
 /// Hands each name of a formula to `each`.
-pub fn of_formula(formula: &mut Formula, each: &mut impl FnMut(Place, &mut u16)) {
+pub fn of_formula(formula: &mut Formula, each: &mut impl FnMut(Role, &mut u16)) {
     match formula {
         Formula::Equal(left, right) => {
-            of_term(Place::Recipe, left, each);
-            of_term(Place::Recipe, right, each);
+            of_term(Role::Recipe, left, each);
+            of_term(Role::Recipe, right, each);
         }
         Formula::Not(body) | Formula::SilentStep(body) => of_formula(body, each),
         Formula::And(left, right) => {
@@ -66,18 +66,18 @@ pub fn of_formula(formula: &mut Formula, each: &mut impl FnMut(Place, &mut u16))
             of_formula(right, each);
         }
         Formula::OutputStep { channel, body } => {
-            of_term(Place::Recipe, channel, each);
+            of_term(Role::Recipe, channel, each);
             of_formula(body, each);
         }
         Formula::InputStep { channel, message, body } => {
-            of_term(Place::Recipe, channel, each);
-            of_term(Place::Recipe, message, each);
+            of_term(Role::Recipe, channel, each);
+            of_term(Role::Recipe, message, each);
             of_formula(body, each);
         }
     }
 }
 
-fn of_term(place: Place, term: &mut Term, each: &mut impl FnMut(Place, &mut u16)) {
+fn of_term(place: Role, term: &mut Term, each: &mut impl FnMut(Role, &mut u16)) {
     match term {
         Term::Name(name) => each(place, name),
         Term::Variable(_) => {}
