@@ -2,8 +2,7 @@
 ghost use mathlib.Core.Path.{_≡_};
 ghost use Rattle.decode_number.specs.Answer.{refusalNumber};
 
-// Why a slice is refused: 1 to 8, in document 01's order. No bytes meet NameRange (`NeverNameRange` of `meaning`); the rows of request 2.1
-// can.
+// Why a slice is refused: 1 to 8, in document 01's order. No bytes meet NameRange (`NeverNameRange` of `meaning`).
 pub enum Refusal {
     TooLong,
     Truncated,

@@ -72,14 +72,14 @@ fn refusal_5_is_met_by_no_bytes() {
 
 /// Names that differ in their second byte alone are two: as channels, in messages, in recipes.
 #[test]
-fn names_of_one_first_byte() {
+fn names_with_the_same_first_byte() {
     let output_on = |bytes: &str| format!("02 00 {bytes} 00 00 00");
-    let heard_on = |bytes: &str| format!("03 00 {bytes} 00 00 00 00 00");
+    let output_step_on = |bytes: &str| format!("03 00 {bytes} 00 00 00 00 00");
     let output_of = |bytes: &str| format!("02 00 00 00 {bytes} 00");
     let is = |bytes: &str| format!("03 00 00 00 01 00 00 {bytes}");
     for (name, other) in [("80 01", "80 02"), ("80 02", "80 03"), ("FF 01", "FF 7F"), ("81 01", "81 02")] {
-        assert_eq!(judge(&output_on(name), &output_on(other), &heard_on(name), 9), answer(0, 0, 0, 3));
-        assert_eq!(judge(&output_on(other), &output_on(name), &heard_on(name), 9), answer(12, 0, 0, 3));
+        assert_eq!(judge(&output_on(name), &output_on(other), &output_step_on(name), 9), answer(0, 0, 0, 3));
+        assert_eq!(judge(&output_on(other), &output_on(name), &output_step_on(name), 9), answer(12, 0, 0, 3));
         assert_eq!(judge(&output_of(name), &output_of(other), &is(name), 9), answer(0, 0, 0, 4));
         assert_eq!(judge(&output_of(other), &output_of(name), &is(name), 9), answer(12, 0, 0, 4));
     }

@@ -94,7 +94,7 @@ pub data TooDeep : Field → ℕ → Type 0 where
   variable : {left scope n : ℕ} {k : ProcessKind} → getElem? processKinds n ≡ some k → Binder k → 12 ≤ scope → TooDeep (process (suc left) scope) n
   step : {left scope n : ℕ} {k : FormulaKind} → getElem? formulaKinds n ≡ some k → StepKind k → TooDeep (formula (suc left) 0 scope) n
 
--- The refusals, by number and place. No bytes meet 5 (`NeverNameRange`), which rows of request 2.1 can.
+-- The refusals, by number and place. No bytes meet 5 (`NeverNameRange`).
 pub data Refusal (s : List ℕ) (root : Field) : (number place : ℕ) → Type 0 where
   slice-too-long : 4096 < length s → Refusal s root 1 4096
   ended-early : {p : ℕ} {f : Field} {fs : List Field} → Due s root p (f ∷ fs) → EndsEarly (drop p s) → Refusal s root 2 (length s)
