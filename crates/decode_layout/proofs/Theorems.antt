@@ -5,7 +5,7 @@ use Prim.Native.Nat.{ℕ}
 use Rattle.meaning.specs.Bytes.Number.{Read, found}
 use Rattle.meaning.specs.Bytes.Standing.{Stands}
 use Rattle.meaning.proofs.Bytes.Reader.{Only, holds, fails}
-use Rattle.meaning.proofs.Bytes.Reading.Term.{term-sound}
+use Rattle.meaning.proofs.Bytes.Reading.Term.{term_sound}
 use Rattle.decode_number.specs.Answer.{extent}
 use Rattle.decode_layout.specs.Ends.{EndOf}
 use Rattle.decode_number.proofs.Theorems.{never}
@@ -18,5 +18,5 @@ unfolding extent
 ends-agree (holds {a} {end} p) stands e h = h.same a (stands a end p) ∙ cc
 ends-agree (fails t) stands e h = never (cc)
 
-pub endsAgree : EndsAgree
-endsAgree s bytes left scope at end r = ends-agree (term-sound bytes left scope at) (λ t e p. p.0)
+pub ends_agree : EndsAgree
+ends_agree s bytes left scope at end r = ends-agree (term_sound bytes left scope at) (λ t e p. p.0)

@@ -1,6 +1,6 @@
 -- Where trees end that stand at a position of a slice: terms, and numbers in them ("Bytes").
 use Rattle.std.specs.Prelude.{◌≡◌, List, [], ◌∷◌, ◌++◌, ℕ, length}
-use Rattle.meaning.specs.Bytes.Encoding.{encodeNumber, encodeTerm}
+use Rattle.meaning.specs.Bytes.Encoding.{encode_number, encode_term}
 use Rattle.meaning.specs.Bytes.Standing.{Stands}
 
 -- The bytes of each, one after the other.
@@ -22,10 +22,10 @@ pub record RowEnd {A : Type 0} (encode : A → List ℕ) (s : List ℕ) (at coun
   pub same : {end : ℕ} → InRow encode s at count end → r ≡ end
 
 abbrev pub TermEnd : List ℕ → (at r : ℕ) → Type 0
-TermEnd = EndOf encodeTerm
+TermEnd = EndOf encode_term
 
 abbrev pub TermsEnd : List ℕ → (at count r : ℕ) → Type 0
-TermsEnd = RowEnd encodeTerm
+TermsEnd = RowEnd encode_term
 
 abbrev pub NumbersEnd : List ℕ → (at count r : ℕ) → Type 0
-NumbersEnd = RowEnd encodeNumber
+NumbersEnd = RowEnd encode_number

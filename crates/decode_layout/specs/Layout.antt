@@ -24,8 +24,8 @@ abbrev pub layout_of : List Layout → (k : ℕ) → Layout
 layout_of table k = get_or table k (layout 0 0 0 0)
 
 -- public name, variable, pair, fst, snd, enc, dec, mac
-abbrev pub termLayouts : List Layout
-termLayouts =
+abbrev pub term_layouts : List Layout
+term_layouts =
     layout 1 0 0 0
     ∷ layout 1 0 0 0
     ∷ layout 0 0 0 2
@@ -37,8 +37,8 @@ termLayouts =
     ∷ []
 
 -- nil, new, output, input, if, let, par, repl
-abbrev pub processLayouts : List Layout
-processLayouts =
+abbrev pub process_layouts : List Layout
+process_layouts =
     layout 0 0 0 0
     ∷ layout 0 1 0 1
     ∷ layout 2 0 0 1
@@ -50,8 +50,8 @@ processLayouts =
     ∷ []
 
 -- equal, not, and, output step, input step, silent step
-abbrev pub formulaLayouts : List Layout
-formulaLayouts =
+abbrev pub formula_layouts : List Layout
+formula_layouts =
     layout 2 0 0 0
     ∷ layout 0 0 0 1
     ∷ layout 0 0 0 2

@@ -1,6 +1,6 @@
 // The kinds of terms, processes and formulas, each with what follows it ("Bytes").
 ghost use Rattle.std.specs.Prelude.{◌≡◌, ◌<◌};
-ghost use Rattle.decode_layout.specs.Layout.{layout_of, termLayouts, processLayouts, formulaLayouts};
+ghost use Rattle.decode_layout.specs.Layout.{layout_of, term_layouts, process_layouts, formula_layouts};
 
 // How many fields of its own follow a kind (numbers after a term's kind, terms after the others), how many variables or aliases
 // it adds for its parts, 1 if it is a step formula, and how many parts of its own sort follow.
@@ -16,7 +16,7 @@ pub const FORMULA_KINDS: usize = 6;
 
 pub fn term(k: usize) -> Layout
     requires { k < 8 }
-    ensures { result ≡ layout_of termLayouts k }
+    ensures { result ≡ layout_of term_layouts k }
 {
     match k {
         0 => Layout(1, 0, 0, 0), // public name
@@ -32,7 +32,7 @@ pub fn term(k: usize) -> Layout
 
 pub fn process(k: usize) -> Layout
     requires { k < 8 }
-    ensures { result ≡ layout_of processLayouts k }
+    ensures { result ≡ layout_of process_layouts k }
 {
     match k {
         0 => Layout(0, 0, 0, 0), // nil
@@ -48,7 +48,7 @@ pub fn process(k: usize) -> Layout
 
 pub fn formula(k: usize) -> Layout
     requires { k < 6 }
-    ensures { result ≡ layout_of formulaLayouts k }
+    ensures { result ≡ layout_of formula_layouts k }
 {
     match k {
         0 => Layout(2, 0, 0, 0), // equal

@@ -12,15 +12,15 @@ use Rattle.decode_number.specs.declared.number.Bounded as bounds
 use Rattle.decode_number.specs.declared.number.Bounded.{Bounded}
 
 -- The number of each refusal.
-abbrev pub refusalNumber : Refusal → ℕ
-refusalNumber TooLong = 1
-refusalNumber Truncated = 2
-refusalNumber Malformed = 3
-refusalNumber UnknownKind = 4
-refusalNumber NameRange = 5
-refusalNumber OutOfScope = 6
-refusalNumber TooDeep = 7
-refusalNumber Trailing = 8
+abbrev pub refusal_number : Refusal → ℕ
+refusal_number TooLong = 1
+refusal_number Truncated = 2
+refusal_number Malformed = 3
+refusal_number UnknownKind = 4
+refusal_number NameRange = 5
+refusal_number OutOfScope = 6
+refusal_number TooDeep = 7
+refusal_number Trailing = 8
 
 -- Where something ends, or how it is refused: an answer that tells nothing of the tree.
 abbrev pub Extent : Type 0
@@ -29,7 +29,7 @@ Extent = Read (Unit {0})
 -- The answer on a term, a process, a formula or a whole slice.
 abbrev pub answer : Answer → Extent
 answer (answers.TheVariants.Ends end) = found tt end
-answer (answers.TheVariants.Refused why place) = refused (refusalNumber why) place
+answer (answers.TheVariants.Refused why place) = refused (refusal_number why) place
 
 -- What a reader's answer says of the end.
 unfoldable pub extent : {A : Type 0} → Read A → Extent
@@ -45,4 +45,4 @@ numeral s at numerals.TheVariants.Malformed = refused 3 at
 -- The answer on a number with a limit.
 abbrev pub bounded : Bounded → Read ℕ
 bounded (bounds.TheVariants.Is n end) = found n end
-bounded (bounds.TheVariants.Refused why place) = refused (refusalNumber why) place
+bounded (bounds.TheVariants.Refused why place) = refused (refusal_number why) place

@@ -2,8 +2,8 @@
 use Rattle.std.specs.Prelude.{ℕ, List, ltb}
 use Rattle.meaning.specs.Bytes.Number.{Read, and_then, provided, number}
 use Rattle.decode_number.specs.declared.answer.Refusal.{Refusal}
-use Rattle.decode_number.specs.Answer.{refusalNumber}
+use Rattle.decode_number.specs.Answer.{refusal_number}
 
 -- A number that is refused for this reason unless it is below the limit.
-unfoldable pub numberBelow : (limit : ℕ) → Refusal → List ℕ → (at : ℕ) → Read ℕ
-numberBelow limit why s at = and_then (number s at) (λ n end. provided (ltb n limit) (refusalNumber why) at n end)
+unfoldable pub number_below : (limit : ℕ) → Refusal → List ℕ → (at : ℕ) → Read ℕ
+number_below limit why s at = and_then (number s at) (λ n end. provided (ltb n limit) (refusal_number why) at n end)

@@ -7,16 +7,16 @@ abbrev pub decode : (first second : ℕ) → ℕ
 decode first second = first % 128 + 128 * second * (first / 128)
 
 -- Past the end of the slice bytes count as 0.
-unfoldable pub decodedValue : List ℕ → (at : ℕ) → ℕ
-decodedValue s at = decode (get_or s at 0) (get_or s (at + 1) 0)
+unfoldable pub decoded_value : List ℕ → (at : ℕ) → ℕ
+decoded_value s at = decode (get_or s at 0) (get_or s (at + 1) 0)
 
 -- The last byte is the first, or the second if the first one's top bit is set.
-abbrev pub lastPlace : List ℕ → (at : ℕ) → ℕ
-lastPlace s at = at + get_or s at 0 / 128
+abbrev pub last_place : List ℕ → (at : ℕ) → ℕ
+last_place s at = at + get_or s at 0 / 128
 
 -- The number ends behind its last byte; where that is missing, at its position.
-unfoldable pub decodedEnd : List ℕ → (at : ℕ) → ℕ
-decodedEnd s at = elim (ltb (lastPlace s at) (length s)) [ true ↦ lastPlace s at + 1 | false ↦ at ]
+unfoldable pub decoded_end : List ℕ → (at : ℕ) → ℕ
+decoded_end s at = elim (ltb (last_place s at) (length s)) [ true ↦ last_place s at + 1 | false ↦ at ]
 
 -- The number with this value and end: cut short if it ends at its position; not in the one form if two bytes cannot hold it, or if it has two
 -- and one could.

@@ -5,12 +5,12 @@ use Rattle.decode_number.specs.declared.answer.Answer.{Answer}
 use Rattle.decode_number.specs.declared.number.Numeral.{Numeral}
 use Rattle.meaning.specs.Bytes.WellFormed.{Bytes}
 use Rattle.meaning.specs.Bytes.Number.{number}
-use Rattle.decode_number.specs.Decoding.{decodedValue, decodedEnd, canonical}
+use Rattle.decode_number.specs.Decoding.{decoded_value, decoded_end, canonical}
 use Rattle.decode_number.specs.Answer.{answer, numeral}
 
 -- In every slice of bytes the number at a position is the one that arithmetic gives, if that is in the one form.
 abbrev pub NumbersDecoded : Type 0
-NumbersDecoded = (s : List ℕ) → Bytes s → (at : ℕ) → number s at ≡ canonical s at (decodedValue s at) (decodedEnd s at)
+NumbersDecoded = (s : List ℕ) → Bytes s → (at : ℕ) → number s at ≡ canonical s at (decoded_value s at) (decoded_end s at)
 
 -- A promise leaves one answer only.
 abbrev pub AnswersFixed : Type 0

@@ -1,6 +1,6 @@
 // What a reader answers.
 ghost use Rattle.std.specs.Prelude.{◌≡◌};
-ghost use Rattle.decode_number.specs.Answer.{refusalNumber};
+ghost use Rattle.decode_number.specs.Answer.{refusal_number};
 
 // Why a slice is refused: 1 to 8, in document 01's order. No bytes meet NameRange (`NeverNameRange` of `meaning`).
 #[derive(Drop)]
@@ -24,7 +24,7 @@ pub enum Answer {
 
 // The number that document 01 gives to a refusal.
 pub fn code(why: Refusal) -> u32
-    ensures { result ≡ refusalNumber why }
+    ensures { result ≡ refusal_number why }
 {
     match why {
         Refusal::TooLong => 1,

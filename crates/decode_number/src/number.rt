@@ -2,9 +2,9 @@
 // its bytes goes the same way for all numbers of a well-formed slice.
 ghost use Rattle.std.specs.Prelude.{◌≡◌, ◌≤◌, ◌<◌};
 ghost use Rattle.meaning.specs.Bytes.Number.{number};
-ghost use Rattle.decode_number.specs.Decoding.{decode, decodedValue, decodedEnd, canonical};
+ghost use Rattle.decode_number.specs.Decoding.{decode, decoded_value, decoded_end, canonical};
 ghost use Rattle.decode_number.specs.Answer.{answer, numeral, bounded, extent};
-ghost use Rattle.decode_number.specs.Bounded.{numberBelow};
+ghost use Rattle.decode_number.specs.Bounded.{number_below};
 
 use crate::answer::{Answer, Refusal};
 
@@ -44,8 +44,8 @@ pub struct Decoding(pub usize, pub usize);
 // The number at a position, in whatever form. Where the bytes end early, the position after it is that position itself. A number of one
 // byte has that byte for its last, which then counts 0 times.
 pub fn decoded(s: &[u8], at: usize) -> Decoding
-    ensures result_value { result.0 ≡ decodedValue s.now at }
-    ensures result_value_2 { result.1 ≡ decodedEnd s.now at }
+    ensures result_value { result.0 ≡ decoded_value s.now at }
+    ensures result_value_2 { result.1 ≡ decoded_end s.now at }
     ensures at_value { number s.now at ≡ canonical s.now at result.0 result.1 }
 {
     if s.len() <= at {
@@ -86,7 +86,7 @@ pub enum Bounded {
 
 // A number that is refused for this reason unless it is below the limit.
 fn below_any(s: &[u8], at: usize, limit: usize, why: Refusal) -> Bounded
-    ensures { bounded result ≡ numberBelow limit why s.now at }
+    ensures { bounded result ≡ number_below limit why s.now at }
 {
     match read(s, at) {
         Numeral::Value(n, end) => {
@@ -104,7 +104,7 @@ fn below_any(s: &[u8], at: usize, limit: usize, why: Refusal) -> Bounded
 // The same, for a limit below which every number has one byte: any other first byte is refused, for whatever reason.
 fn below_short(s: &[u8], at: usize, limit: usize, why: Refusal) -> Bounded
     requires { limit ≤ 128 }
-    ensures { bounded result ≡ numberBelow limit why s.now at }
+    ensures { bounded result ≡ number_below limit why s.now at }
 {
     if s.len() <= at {
         return Bounded::Refused(Refusal::Truncated, s.len());
@@ -118,7 +118,7 @@ fn below_short(s: &[u8], at: usize, limit: usize, why: Refusal) -> Bounded
 
 // The same, for every limit.
 pub fn below(s: &[u8], at: usize, limit: usize, why: Refusal) -> Bounded
-    ensures { bounded result ≡ numberBelow limit why s.now at }
+    ensures { bounded result ≡ number_below limit why s.now at }
 {
     if limit <= ONE_BYTE {
         return below_short(s, at, limit, why);
@@ -128,7 +128,7 @@ pub fn below(s: &[u8], at: usize, limit: usize, why: Refusal) -> Bounded
 
 // The same, where only its end is asked for.
 pub fn end_below(s: &[u8], at: usize, limit: usize, why: Refusal) -> Answer
-    ensures { answer result ≡ extent (numberBelow limit why s.now at) }
+    ensures { answer result ≡ extent (number_below limit why s.now at) }
 {
     match below(s, at, limit, why) {
         Bounded::Is(_, end) => Answer::Ends(end),

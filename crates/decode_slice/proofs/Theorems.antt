@@ -8,13 +8,13 @@ use mir.Syntax.{w8}
 use mir.Val.{Fits}
 use Rattle.meaning.specs.Bytes.WellFormed.{Bytes}
 use Rattle.meaning.specs.Bytes.Number.{Read, found, refused}
-use Rattle.meaning.specs.Bytes.Reading.{readModel, readFormula}
-use Rattle.meaning.proofs.Bytes.Reading.{modelsRead, formulasRead}
-use Rattle.meaning.proofs.Bytes.Refusal.{modelsRefused, formulasRefused}
+use Rattle.meaning.specs.Bytes.Reading.{read_model, read_formula}
+use Rattle.meaning.proofs.Bytes.Reading.{models_read, formulas_read}
+use Rattle.meaning.proofs.Bytes.Refusal.{models_refused, formulas_refused}
 use Rattle.decode_number.specs.declared.answer.Answer.{Answer}
 use Rattle.decode_number.specs.declared.answer.Answer.TheVariants.{Ends, Refused}
-use Rattle.decode_number.specs.Answer.{refusalNumber, answer, extent}
-use Rattle.decode_number.proofs.Theorems.{answersFixed, never}
+use Rattle.decode_number.specs.Answer.{refusal_number, answer, extent}
+use Rattle.decode_number.proofs.Theorems.{answers_fixed, never}
 use Rattle.decode_slice.specs.Exact.{Exact, ModelAnswer, FormulaAnswer}
 use Rattle.decode_slice.specs.Theorems.{ModelsExact, FormulasExact}
 
@@ -27,25 +27,25 @@ module _ {A : Type 0} (s : List ℕ) (Is : A → Type 0) (Refuses : (number plac
   exact (found x end) reads refuses a e = record {
     ends = λ other. (
       λ f. let is = (reads x).1 end refl in let whole = (reads x).0 is in let same : other ≡ end = cc in (cc, (x, is)),
-      λ f. let is = (reads x).1 end refl in let whole = (reads x).0 is in answersFixed a (Ends other) (cc),
+      λ f. let is = (reads x).1 end refl in let whole = (reads x).0 is in answers_fixed a (Ends other) (cc),
     );
-    refuses = λ why place. (λ f. never (cc), λ t. let here = (refuses (refusalNumber why) place).1 t in never (cc));
+    refuses = λ why place. (λ f. never (cc), λ t. let here = (refuses (refusal_number why) place).1 t in never (cc));
   }
   exact (refused number place) reads refuses a e = record {
     ends = λ end. (λ f. never (cc), λ f. let here = (reads f.1.0).0 f.1.1 in never (cc));
     refuses = λ why there. (
-      λ f. (refuses (refusalNumber why) there).0 (cc),
-      λ t. let here = (refuses (refusalNumber why) there).1 t in answersFixed a (Refused why there) (cc),
+      λ f. (refuses (refusal_number why) there).0 (cc),
+      λ t. let here = (refuses (refusal_number why) there).1 t in answers_fixed a (Refused why there) (cc),
     );
   }
 
-pub modelsExact : ModelsExact
-modelsExact s bytes a e =
-    exact s _ _ (readModel s) (λ P. ((modelsRead s P).0, (modelsRead s P).1 bytes)) (modelsRefused s) a e
+pub models_exact : ModelsExact
+models_exact s bytes a e =
+    exact s _ _ (read_model s) (λ P. ((models_read s P).0, (models_read s P).1 bytes)) (models_refused s) a e
 
-pub formulasExact : FormulasExact
-formulasExact s bytes a e =
-    exact s _ _ (readFormula s) (λ F. ((formulasRead s F).0, (formulasRead s F).1 bytes)) (formulasRefused s) a e
+pub formulas_exact : FormulasExact
+formulas_exact s bytes a e =
+    exact s _ _ (read_formula s) (λ F. ((formulas_read s F).0, (formulas_read s F).1 bytes)) (formulas_refused s) a e
 
 -- A slice of the code has bytes for its entries, so answers on it are exact.
 pub bytes_of : (s : List ℕ) → ((i : ℕ) → Fits w8 (get_or s i 0)) → Bytes s
@@ -53,8 +53,8 @@ bytes_of [] h = tt
 bytes_of (b ∷ s) h = ((h 0).fits, bytes_of s (λ i. h (suc i)))
 
 module _ (s : List ℕ) (h : (i : ℕ) → Fits w8 (get_or s i 0)) (a : Answer) where
-  pub model-exact : answer a ≡ extent (readModel s) → ModelAnswer s a
-  model-exact = modelsExact s (bytes_of s h) a
+  pub model_exact : answer a ≡ extent (read_model s) → ModelAnswer s a
+  model_exact = models_exact s (bytes_of s h) a
 
-  pub formula-exact : answer a ≡ extent (readFormula s) → FormulaAnswer s a
-  formula-exact = formulasExact s (bytes_of s h) a
+  pub formula_exact : answer a ≡ extent (read_formula s) → FormulaAnswer s a
+  formula_exact = formulas_exact s (bytes_of s h) a

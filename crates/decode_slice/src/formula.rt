@@ -2,7 +2,7 @@
 ghost use Rattle.std.specs.Prelude.{◌≡◌, ◌+◌, ◌≤◌};
 ghost use Rattle.meaning.specs.Bytes.Reading.{formula};
 ghost use Rattle.decode_number.specs.Answer.{answer, bounded, extent};
-ghost use Rattle.decode_slice.specs.Sorts.{formulaRoom, formulaHead};
+ghost use Rattle.decode_slice.specs.Sorts.{formula_room, formula_head};
 
 use decode_layout::layout;
 use decode_layout::layout::Layout;
@@ -13,7 +13,7 @@ use decode_term::term;
 
 // Whether one more step formula may stand on the path, if the kind is one.
 fn room(steps: usize, kind: Layout) -> bool
-    ensures { result ≡ formulaRoom steps kind }
+    ensures { result ≡ formula_room steps kind }
 {
     let Layout(_, _, step, _) = kind;
     if step == 0 {
@@ -24,7 +24,7 @@ fn room(steps: usize, kind: Layout) -> bool
 
 // A formula's kind and its recipes.
 fn head(s: &[u8], at: usize, scope: usize, left: usize, steps: usize) -> Bounded
-    ensures { bounded result ≡ formulaHead left steps scope s.now at }
+    ensures { bounded result ≡ formula_head left steps scope s.now at }
 {
     match number::below(s, at, layout::FORMULA_KINDS, Refusal::UnknownKind) {
         Bounded::Is(k, next) => {

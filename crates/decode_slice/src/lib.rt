@@ -4,10 +4,10 @@ mod formula;
 mod process;
 
 ghost use Rattle.std.specs.Prelude.{◌≡◌};
-ghost use Rattle.meaning.specs.Bytes.Reading.{readModel, readFormula};
+ghost use Rattle.meaning.specs.Bytes.Reading.{read_model, read_formula};
 ghost use Rattle.decode_number.specs.Answer.{answer, extent};
 ghost use Rattle.decode_slice.specs.Exact.{ModelAnswer, FormulaAnswer};
-ghost use Rattle.decode_slice.specs.Sorts.{toTheEnd};
+ghost use Rattle.decode_slice.specs.Sorts.{to_the_end};
 
 use decode_layout::limit;
 use decode_number::answer::{Answer, Refusal};
@@ -17,7 +17,7 @@ const BYTES: usize = limit::SLICE;
 
 // A model, as a whole slice.
 pub fn read_model(s: &[u8]) -> Answer
-    ensures result_value { answer result ≡ extent (readModel s.now) }
+    ensures result_value { answer result ≡ extent (read_model s.now) }
     ensures model_answer { ModelAnswer s.now result }
 {
     if BYTES < s.len() {
@@ -28,7 +28,7 @@ pub fn read_model(s: &[u8]) -> Answer
 
 // A formula, as a whole slice.
 pub fn read_formula(s: &[u8]) -> Answer
-    ensures result_value { answer result ≡ extent (readFormula s.now) }
+    ensures result_value { answer result ≡ extent (read_formula s.now) }
     ensures formula_answer { FormulaAnswer s.now result }
 {
     if BYTES < s.len() {
@@ -42,7 +42,7 @@ pub fn read_formula(s: &[u8]) -> Answer
 
 // The same answer, unless bytes are left over.
 fn to_the_end(s: &[u8], read: Answer) -> Answer
-    ensures { answer result ≡ toTheEnd s.now (answer read) }
+    ensures { answer result ≡ to_the_end s.now (answer read) }
 {
     match read {
         Answer::Ends(end) => {

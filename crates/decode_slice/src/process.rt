@@ -2,7 +2,7 @@
 ghost use Rattle.std.specs.Prelude.{◌≡◌, ◌+◌};
 ghost use Rattle.meaning.specs.Bytes.Reading.{process};
 ghost use Rattle.decode_number.specs.Answer.{answer, bounded, extent};
-ghost use Rattle.decode_slice.specs.Sorts.{processRoom, processHead};
+ghost use Rattle.decode_slice.specs.Sorts.{process_room, process_head};
 
 use decode_layout::layout::Layout;
 use decode_layout::{layout, limit};
@@ -13,7 +13,7 @@ use decode_term::term;
 
 // Whether there is room for the variable that a kind binds, if it binds one.
 fn room(scope: usize, kind: Layout) -> bool
-    ensures { result ≡ processRoom scope kind }
+    ensures { result ≡ process_room scope kind }
 {
     let Layout(_, binds, _, _) = kind;
     if binds == 0 {
@@ -24,7 +24,7 @@ fn room(scope: usize, kind: Layout) -> bool
 
 // A process's kind and its terms.
 fn head(s: &[u8], at: usize, scope: usize, left: usize) -> Bounded
-    ensures { bounded result ≡ processHead left scope s.now at }
+    ensures { bounded result ≡ process_head left scope s.now at }
 {
     match number::below(s, at, layout::PROCESS_KINDS, Refusal::UnknownKind) {
         Bounded::Is(k, next) => {

@@ -2,7 +2,7 @@
 ghost use Rattle.std.specs.Prelude.{◌≡◌};
 ghost use Rattle.meaning.specs.Bytes.Reading.{term};
 ghost use Rattle.decode_number.specs.Answer.{answer, bounded, extent};
-ghost use Rattle.decode_term.specs.Shape.{leaf, termHead, termsAt};
+ghost use Rattle.decode_term.specs.Shape.{leaf, term_head, terms_at};
 
 use decode_layout::layout::Layout;
 use decode_layout::{layout, limit};
@@ -23,7 +23,7 @@ fn leaf(s: &[u8], at: usize, scope: usize, k: usize) -> Answer
 
 // A term's kind and its number, if it has one.
 fn head(s: &[u8], at: usize, scope: usize, left: usize) -> Bounded
-    ensures { bounded result ≡ termHead left scope s.now at }
+    ensures { bounded result ≡ term_head left scope s.now at }
 {
     match number::below(s, at, layout::TERM_KINDS, Refusal::UnknownKind) {
         Bounded::Is(k, next) => {
@@ -76,7 +76,7 @@ fn read(s: &[u8], at: usize, scope: usize, left: usize) -> Answer
 
 // So many terms in a row, each with all its nodes left.
 pub fn fields(s: &[u8], at: usize, scope: usize, count: usize) -> Answer
-    ensures { answer result ≡ termsAt count scope s.now at }
+    ensures { answer result ≡ terms_at count scope s.now at }
 {
     if count == 0 {
         return Answer::Ends(at);

@@ -5,7 +5,7 @@ use Rattle.meaning.specs.Bytes.Process.{Process}
 use Rattle.meaning.specs.Bytes.WellFormed.{IsModel}
 use Rattle.meaning.specs.Steps.State.{State, start}
 use Rattle.meaning.specs.Logic.Bisimulation.{Bisimulation}
-use Rattle.meaning.specs.Verdict.{verdict, workAfter}
+use Rattle.meaning.specs.Verdict.{verdict, work_after}
 use Rattle.meaning.specs.Theorems.{Acceptable}
 use Rattle.verdict_input.specs.declared.answer.Answer.{Answer}
 use Rattle.verdict_input.specs.Answer.{numbers}
@@ -17,7 +17,7 @@ pub record Promise (first second formula work : List ℕ) (budget : ℕ) (r : An
   -- Request 2.2: the result is never 5.
   pub never-name-range : ¬ (r.result ≡ 5)
   -- Every work byte is as the verdict leaves it.
-  pub bytes : after ≡ workAfter first second formula work
+  pub bytes : after ≡ work_after first second formula work
   -- Demand 3, first half: result 0 excludes every strong early bisimulation between the start states that is given by a test. A clause of a
   -- contract is of Type 0, and the relations on states are not; for all of them this is `AcceptedExcludes`.
   pub excludes : r.result ≡ 0 → (P Q : Process) → IsModel first P → IsModel second Q

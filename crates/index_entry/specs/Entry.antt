@@ -1,8 +1,8 @@
 -- What the index says of a process: where it ends, the last output and the last input that it offers at once, how many private names it
 -- takes if no message decides that, and how far it may grow ("Bytes"; "Steps").
 use Rattle.std.specs.Prelude.{◌≡◌, Bool, true, false, List, [], ◌∷◌, ℕ, zero, suc, ◌+◌, ◌-◌, ◌≤◌, ltb, length, get_or}
-use Rattle.meaning.specs.Bytes.Process.{output, input, Process, nil, new, act, if, let-in, par, repl}
-use Rattle.meaning.specs.Bytes.Encoding.{encodeTerm, encodeProcess}
+use Rattle.meaning.specs.Bytes.Process.{output, input, Process, nil, new, act, if, let_in, par, repl}
+use Rattle.meaning.specs.Bytes.Encoding.{encode_term, encode_process}
 use Rattle.index_entry.specs.declared.entry.Entry.{Entry}
 
 -- The later one of two positions: the second one, and what the first one is more.
@@ -17,10 +17,10 @@ last_of out at (new P) = last_of out (at + 1) P
 last_of out at (act (output C M) P) = elim out [ true ↦ at + 1 | false ↦ 0 ]
 last_of out at (act (input C) P) = elim out [ true ↦ 0 | false ↦ at + 1 ]
 last_of out at (if M N P Q) =
-    latest (last_of out (at + 1 + length (encodeTerm M) + length (encodeTerm N)) P)
-    (last_of out (at + 1 + length (encodeTerm M) + length (encodeTerm N) + length (encodeProcess P)) Q)
-last_of out at (let-in M P) = last_of out (at + 1 + length (encodeTerm M)) P
-last_of out at (par P Q) = latest (last_of out (at + 1) P) (last_of out (at + 1 + length (encodeProcess P)) Q)
+    latest (last_of out (at + 1 + length (encode_term M) + length (encode_term N)) P)
+    (last_of out (at + 1 + length (encode_term M) + length (encode_term N) + length (encode_process P)) Q)
+last_of out at (let_in M P) = last_of out (at + 1 + length (encode_term M)) P
+last_of out at (par P Q) = latest (last_of out (at + 1) P) (last_of out (at + 1 + length (encode_process P)) Q)
 last_of out at (repl P) = last_of out (at + 1) P
 
 -- Names of two processes together, each given with one more; 0 if either is open.
@@ -30,14 +30,14 @@ together (suc a) zero = 0
 together (suc a) (suc b) = suc (a + b)
 
 -- How many private names settling a process takes, and one more; 0 if it is open, since an `if` or a `let` is met first.
-unfoldable pub fixedNames : Process → ℕ
-fixedNames nil = 1
-fixedNames (new P) = together 2 (fixedNames P)
-fixedNames (act p P) = 1
-fixedNames (if M N P Q) = 0
-fixedNames (let-in M P) = 0
-fixedNames (par P Q) = together (fixedNames P) (fixedNames Q)
-fixedNames (repl P) = 1
+unfoldable pub fixed_names : Process → ℕ
+fixed_names nil = 1
+fixed_names (new P) = together 2 (fixed_names P)
+fixed_names (act p P) = 1
+fixed_names (if M N P Q) = 0
+fixed_names (let_in M P) = 0
+fixed_names (par P Q) = together (fixed_names P) (fixed_names Q)
+fixed_names (repl P) = 1
 
 -- Two numbers together, but 33 at most: more than a state has threads.
 abbrev pub capped : (a b : ℕ) → ℕ
@@ -50,7 +50,7 @@ growth nil = 0
 growth (new P) = capped 1 (growth P)
 growth (act p P) = 1
 growth (if M N P Q) = capped (growth P) (growth Q)
-growth (let-in M P) = 33
+growth (let_in M P) = 33
 growth (par P Q) = capped (growth P) (growth Q)
 growth (repl P) = capped 1 (growth P)
 
@@ -63,7 +63,7 @@ entry e o i n k = record { end = e; output = o; input = i; names = n; growth = k
 
 -- The entry of a process that stands at a position.
 abbrev pub entry_of : (at : ℕ) → Process → Entry
-entry_of at P = entry (at + length (encodeProcess P)) (last_of true at P) (last_of false at P) (fixedNames P) (growth P)
+entry_of at P = entry (at + length (encode_process P)) (last_of true at P) (last_of false at P) (fixed_names P) (growth P)
 
 -- The entry of processes in a row.
 abbrev pub joined : (e f : Entry) → Entry
@@ -73,14 +73,14 @@ joined e f =
 abbrev pub row_of : (at : ℕ) → List Process → Entry
 row_of at [] = entry at 0 0 1 0
 row_of at (P ∷ []) = entry_of at P
-row_of at (P ∷ Q ∷ Ps) = joined (entry_of at P) (row_of (at + length (encodeProcess P)) (Q ∷ Ps))
+row_of at (P ∷ Q ∷ Ps) = joined (entry_of at P) (row_of (at + length (encode_process P)) (Q ∷ Ps))
 
 -- The entry of a node at a position, from the one of its parts, by its kind: nil, new, output, input, if, let, par, repl.
 abbrev pub named : Entry → (names growth : ℕ) → Entry
 named e n k = entry e.end e.output e.input n k
 
-abbrev pub nodeEntries : (at : ℕ) → Entry → List Entry
-nodeEntries at e =
+abbrev pub node_entries : (at : ℕ) → Entry → List Entry
+node_entries at e =
     e
     ∷ named e (together 2 e.names) (capped 1 e.growth)
     ∷ entry e.end (at + 1) 0 1 1
@@ -92,7 +92,7 @@ nodeEntries at e =
     ∷ []
 
 abbrev pub node_of : (kind at : ℕ) → Entry → Entry
-node_of kind at e = get_or (nodeEntries at e) kind e
+node_of kind at e = get_or (node_entries at e) kind e
 
 -- The numbers of an entry are those of a position of the model, or few.
 pub record Small (e : Entry) : Type 0 where

@@ -39,15 +39,15 @@ neither true b h = absurd (true≢false h)
 neither false b h = (refl, h)
 
 -- Some element passes.
-pub some-passes : {A : Type 0} (p : A → Bool) {xs : List A} → Some (λ x. T (p x)) xs → T (any_of p xs)
+pub some_passes : {A : Type 0} (p : A → Bool) {xs : List A} → Some (λ x. T (p x)) xs → T (any_of p xs)
 unfolding any_of
-some-passes p (here {x = x} {xs = xs} t) = or_left (p x) (any_of p xs) t
-some-passes p (there {x = x} {xs = xs} s) = or_right (p x) (any_of p xs) (some-passes p s)
+some_passes p (here {x = x} {xs = xs} t) = or_left (p x) (any_of p xs) t
+some_passes p (there {x = x} {xs = xs} s) = or_right (p x) (any_of p xs) (some_passes p s)
 
-pub passes-some : {A : Type 0} (p : A → Bool) (xs : List A) → T (any_of p xs) → Some (λ x. T (p x)) xs
+pub passes_some : {A : Type 0} (p : A → Bool) (xs : List A) → T (any_of p xs) → Some (λ x. T (p x)) xs
 unfolding any_of
-passes-some p [] t = absurd t
-passes-some p (x ∷ xs) t = ⊎_elim here (λ s. there (passes-some p xs s)) (or_yes (p x) (any_of p xs) t)
+passes_some p [] t = absurd t
+passes_some p (x ∷ xs) t = ⊎_elim here (λ s. there (passes_some p xs s)) (or_yes (p x) (any_of p xs) t)
 
 -- No element passes.
 pub none_passes : {A : Type 0} (p : A → Bool) {xs : List A} → Every (λ x. p x ≡ false) xs → any_of p xs ≡ false
@@ -66,6 +66,6 @@ unfolding any_of
 any_append p [] ys = refl
 any_append p (x ∷ xs) ys = ap (λ b. p x || b) (any_append p xs ys) ∙ or_assoc (p x) (any_of p xs) (any_of p ys)
 
-pub some-map : {A : Type 0} {P Q : A → Type 0} → ((x : A) → P x → Q x) → {xs : List A} → Some P xs → Some Q xs
-some-map f (here p) = here (f _ p)
-some-map f (there s) = there (some-map f s)
+pub some_map : {A : Type 0} {P Q : A → Type 0} → ((x : A) → P x → Q x) → {xs : List A} → Some P xs → Some Q xs
+some_map f (here p) = here (f _ p)
+some_map f (there s) = there (some_map f s)

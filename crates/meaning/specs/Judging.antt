@@ -7,7 +7,7 @@ use Rattle.meaning.specs.Messages.Normal
 use Rattle.meaning.specs.Bytes.Process.{Process}
 use Rattle.meaning.specs.Bytes.Formula.{Formula}
 use Rattle.meaning.specs.Steps.State.{written}
-use Rattle.meaning.specs.Judging.Visits.{Arrival, startArrival, arrivals, at, meets}
+use Rattle.meaning.specs.Judging.Visits.{Arrival, start_arrival, arrivals, at, meets}
 
 -- Truth, the number of visits, and whether one of them met a limit.
 pub record Judgement : Type 0 where
@@ -26,10 +26,10 @@ negated j = record { truth = Bool.not j.truth; count = 1 + j.count; limited = j.
 abbrev pub both : Judgement → Judgement → Judgement
 both j k = record { truth = j.truth && k.truth; count = 1 + j.count + k.count; limited = j.limited || k.limited }
 
-unfoldable pub someOf : List Judgement → Judgement
-someOf [] = record { truth = false; count = 1; limited = false }
-someOf (j ∷ js) =
-    let k = someOf js in
+unfoldable pub some_of : List Judgement → Judgement
+some_of [] = record { truth = false; count = 1; limited = false }
+some_of (j ∷ js) =
+    let k = some_of js in
     record { truth = j.truth || k.truth; count = j.count + k.count; limited = j.limited || k.limited }
 
 -- Nothing is skipped: every part is judged, and at every state that a step leads to.
@@ -39,7 +39,7 @@ judge (Formula.equal M N) A =
     (λ _. record { truth = Normal.equal (written A.state.aliases M) (written A.state.aliases N); count = 1; limited = false })
 judge (Formula.not F) A = visit (meets (at (Formula.not F) A)) (λ _. negated (judge F A))
 judge (Formula.and F G) A = visit (meets (at (Formula.and F G) A)) (λ _. both (judge F A) (judge G A))
-judge (Formula.step a F) A = visit (meets (at (Formula.step a F) A)) (λ _. someOf (map (judge F) (arrivals A.state a)))
+judge (Formula.step a F) A = visit (meets (at (Formula.step a F) A)) (λ _. some_of (map (judge F) (arrivals A.state a)))
 
-unfoldable pub judgeModel : Formula → Process → Judgement
-judgeModel F P = judge F (startArrival P)
+unfoldable pub judge_model : Formula → Process → Judgement
+judge_model F P = judge F (start_arrival P)

@@ -16,5 +16,5 @@ pub data Every {ℓ} {A : Type 0} (P : A → Type ℓ) : List A → Type ℓ whe
 pub record OneToOne (A B : Type 0) : Type 0 where
   pub to : A → B
   pub from : B → A
-  pub to-from : (b : B) → to (from b) ≡ b
-  pub from-to : (a : A) → from (to a) ≡ a
+  pub to_from : (b : B) → to (from b) ≡ b
+  pub from_to : (a : A) → from (to a) ≡ a

@@ -11,19 +11,19 @@ use Rattle.meaning.specs.Bytes.Formula.{Label, Formula}
 use Rattle.meaning.specs.Bytes.Scope.{FormulaScoped}
 use Rattle.meaning.specs.Bytes.WellFormed.{Bytes, IsModel, IsFormula}
 use Rattle.meaning.specs.Bytes.Number.{found, refused}
-use Rattle.meaning.specs.Bytes.Reading.{readModel, readFormula}
+use Rattle.meaning.specs.Bytes.Reading.{read_model, read_formula}
 use Rattle.meaning.specs.Bytes.Refusal.{Field, Refusal, process, formula}
 use Rattle.meaning.specs.Places.{Some, Every, OneToOne}
 use Rattle.meaning.specs.Steps.State.{Thread, State, start}
 use Rattle.meaning.specs.Steps.Invariant.{ThreadStored, Invariant}
-use Rattle.meaning.specs.Judging.Limits.{overOffers}
+use Rattle.meaning.specs.Judging.Limits.{over_offers}
 use Rattle.meaning.specs.Steps.Step.{Step}
 use Rattle.meaning.specs.Steps.Enumeration.{steps}
 use Rattle.meaning.specs.Logic.Truth.{True, TrueOf, any_of, holds}
 use Rattle.meaning.specs.Logic.Bisimulation.{outputs, Bisimulation}
 use Rattle.meaning.specs.Judging.Visits.{Arrival, arrivals, meets, visits, count_of, MeetsNoLimit}
 use Rattle.meaning.specs.Judging.{judge}
-use Rattle.meaning.specs.Verdict.{Answer, workBytes, verdict, workAfter}
+use Rattle.meaning.specs.Verdict.{Answer, work_bytes, verdict, work_after}
 use Rattle.meaning.specs.Verdict.Answered.{Formed, Answered}
 
 -- Demand 2, messages: equal by the equations exactly when the normal forms are the same, and the test decides it.
@@ -39,22 +39,22 @@ EqualityDecided = (m n : Message) → Equal m n ↔ T (equal m n)
 -- Reading succeeds exactly on the well-formed slices, to their end, and gives the one tree, whose encoding is the slice.
 abbrev pub ModelsRead : Type 0
 ModelsRead =
-    (s : List ℕ) (P : Process) → (IsModel s P → readModel s ≡ found P (length s))
-    × (Bytes s → (end : ℕ) → readModel s ≡ found P end → IsModel s P)
+    (s : List ℕ) (P : Process) → (IsModel s P → read_model s ≡ found P (length s))
+    × (Bytes s → (end : ℕ) → read_model s ≡ found P end → IsModel s P)
 
 abbrev pub FormulasRead : Type 0
 FormulasRead =
-    (s : List ℕ) (F : Formula) → (IsFormula s F → readFormula s ≡ found F (length s))
-    × (Bytes s → (end : ℕ) → readFormula s ≡ found F end → IsFormula s F)
+    (s : List ℕ) (F : Formula) → (IsFormula s F → read_formula s ≡ found F (length s))
+    × (Bytes s → (end : ℕ) → read_formula s ≡ found F end → IsFormula s F)
 
 -- A slice is refused exactly as the rules say, by number and place.
 abbrev pub ModelsRefused : Type 0
 ModelsRefused =
-    (s : List ℕ) (number place : ℕ) → (readModel s ≡ refused number place) ↔ Refusal s (process 64 0) number place
+    (s : List ℕ) (number place : ℕ) → (read_model s ≡ refused number place) ↔ Refusal s (process 64 0) number place
 
 abbrev pub FormulasRefused : Type 0
 FormulasRefused =
-    (s : List ℕ) (number place : ℕ) → (readFormula s ≡ refused number place) ↔ Refusal s (formula 48 16 0) number place
+    (s : List ℕ) (number place : ℕ) → (read_formula s ≡ refused number place) ↔ Refusal s (formula 48 16 0) number place
 
 -- The slices that no rule refuses are exactly the well-formed ones.
 abbrev pub ModelsFormed : Type 0
@@ -94,9 +94,9 @@ abbrev pub InvariantHolds : Type 0
 InvariantHolds =
     ((P : Process) → Invariant (start P)) × ((S T : State) (a : Label) → Step S a T → Invariant S → Invariant T)
 
--- Whichever copy of a repl thread is opened, and however late, the same limits are met: `overOffers` may ask the first alone.
+-- Whichever copy of a repl thread is opened, and however late, the same limits are met: `over_offers` may ask the first alone.
 abbrev pub CopiesAlike : Type 0
-CopiesAlike = (t : Thread) (n m : ℕ) → ThreadStored n t → n ≤ m → overOffers t m ≡ overOffers t n
+CopiesAlike = (t : Thread) (n m : ℕ) → ThreadStored n t → n ≤ m → over_offers t m ≡ over_offers t n
 
 -- What is judged after a step are the states of the enumeration, each once and in its order.
 abbrev pub ArrivalsAreSteps : Type 0
@@ -137,9 +137,9 @@ pub record Acceptable (first second formula : List ℕ) (work budget : ℕ) : Ty
   pub Q : Process
   pub F : Formula
   pub formed : Formed first second formula work P Q F
-  pub true-of-first : TrueOf F P
-  pub false-of-second : ¬ (TrueOf F Q)
-  pub within-budget : count_of P Q F ≤ budget
+  pub true_of_first : TrueOf F P
+  pub false_of_second : ¬ (TrueOf F Q)
+  pub within_budget : count_of P Q F ≤ budget
   pub unlimited : MeetsNoLimit P Q F
 
 abbrev pub AcceptedExactly : Type 0
@@ -150,12 +150,12 @@ AcceptedExactly =
 -- Every work byte: untouched by the results 1 to 9; after 0 and after 10 to 13 the first 65,536 are 0, later ones unchanged.
 pub record Cleared (before after : List ℕ) : Type 0 where
   pub as_long : length after ≡ length before
-  pub cleared : (i : ℕ) → i < workBytes → get_elem? after i ≡ some 0
-  pub unchanged : (i : ℕ) → workBytes ≤ i → get_elem? after i ≡ get_elem? before i
+  pub cleared : (i : ℕ) → i < work_bytes → get_elem? after i ≡ some 0
+  pub unchanged : (i : ℕ) → work_bytes ≤ i → get_elem? after i ≡ get_elem? before i
 
 abbrev pub WorkBytesAfter : Type 0
 WorkBytesAfter =
     (first second formula work : List ℕ) (budget : ℕ) → Bytes first → Bytes second → Bytes formula
     → let result = (verdict first second formula (length work) budget).result in
-    ((1 ≤ result) × (result ≤ 9) → workAfter first second formula work ≡ work)
-    × ((result ≡ 0) ⊎ (10 ≤ result) → Cleared work (workAfter first second formula work))
+    ((1 ≤ result) × (result ≤ 9) → work_after first second formula work ≡ work)
+    × ((result ≡ 0) ⊎ (10 ≤ result) → Cleared work (work_after first second formula work))

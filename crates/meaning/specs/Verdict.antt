@@ -4,8 +4,8 @@ use Rattle.std.specs.Prelude.{ℕ, ◌+◌, Bool, true, false, ◌||◌, List, �
 use Rattle.meaning.specs.Bytes.Process.{Process}
 use Rattle.meaning.specs.Bytes.Formula.{Formula}
 use Rattle.meaning.specs.Bytes.Number.{Read, found, refused}
-use Rattle.meaning.specs.Bytes.Reading.{readModel, readFormula}
-use Rattle.meaning.specs.Judging.{judgeModel}
+use Rattle.meaning.specs.Bytes.Reading.{read_model, read_formula}
+use Rattle.meaning.specs.Judging.{judge_model}
 
 pub record Answer : Type 0 where
   pub result : ℕ
@@ -14,8 +14,8 @@ pub record Answer : Type 0 where
   pub count : ℕ
 
 -- The buffer's 65,536 bytes.
-abbrev pub workBytes : ℕ
-workBytes = 65536
+abbrev pub work_bytes : ℕ
+work_bytes = 65536
 
 -- Turned back for the state, or accepted.
 abbrev pub answer : (result count : ℕ) → Answer
@@ -31,8 +31,8 @@ ranked false false true false count budget = answer 0 count
 
 unfoldable pub judged : Process → Process → Formula → (budget : ℕ) → Answer
 judged P Q F budget =
-    let j = judgeModel F P in
-    let k = judgeModel F Q in
+    let j = judge_model F P in
+    let k = judge_model F Q in
     let count = j.count + k.count in
     ranked (ltb budget count) (j.limited || k.limited) j.truth k.truth count budget
 
@@ -41,34 +41,34 @@ pub data Input : Type 0 where
   good : Process → Process → Formula → Input
   bad : (result slice place : ℕ) → Input
 
-unfoldable pub withFormula : Process → Process → Read Formula → Input
-withFormula P Q (found F end) = good P Q F
-withFormula P Q (refused number place) = bad number 3 place
+unfoldable pub with_formula : Process → Process → Read Formula → Input
+with_formula P Q (found F end) = good P Q F
+with_formula P Q (refused number place) = bad number 3 place
 
-unfoldable pub withSecond : Process → Read Process → List ℕ → Input
-withSecond P (found Q end) formula = withFormula P Q (readFormula formula)
-withSecond P (refused number place) formula = bad number 2 place
+unfoldable pub with_second : Process → Read Process → List ℕ → Input
+with_second P (found Q end) formula = with_formula P Q (read_formula formula)
+with_second P (refused number place) formula = bad number 2 place
 
-unfoldable pub withFirst : Read Process → (second formula : List ℕ) → Input
-withFirst (found P end) second formula = withSecond P (readModel second) formula
-withFirst (refused number place) second formula = bad number 1 place
+unfoldable pub with_first : Read Process → (second formula : List ℕ) → Input
+with_first (found P end) second formula = with_second P (read_model second) formula
+with_first (refused number place) second formula = bad number 1 place
 
 unfoldable pub input : (first second formula : List ℕ) (work : ℕ) → Input
 input first second formula work =
-    elim (ltb work workBytes) [ true ↦ bad 9 0 0 | false ↦ withFirst (readModel first) second formula ]
+    elim (ltb work work_bytes) [ true ↦ bad 9 0 0 | false ↦ with_first (read_model first) second formula ]
 
-unfoldable pub verdictOn : Input → (budget : ℕ) → Answer
-verdictOn (good P Q F) budget = judged P Q F budget
-verdictOn (bad result slice place) budget = record { result = result; slice = slice; place = place; count = 0 }
+unfoldable pub verdict_on : Input → (budget : ℕ) → Answer
+verdict_on (good P Q F) budget = judged P Q F budget
+verdict_on (bad result slice place) budget = record { result = result; slice = slice; place = place; count = 0 }
 
 -- The four numbers, for three slices, the length of the work buffer, and the budget.
 unfoldable pub verdict : (first second formula : List ℕ) (work budget : ℕ) → Answer
-verdict first second formula work budget = verdictOn (input first second formula work) budget
+verdict first second formula work budget = verdict_on (input first second formula work) budget
 
 -- The work bytes after, for the work bytes before: untouched where the input is turned back, else with the first 65,536 cleared.
-unfoldable pub workOn : Input → List ℕ → List ℕ
-workOn (good P Q F) work = replicate workBytes 0 ++ drop workBytes work
-workOn (bad result slice place) work = work
+unfoldable pub work_on : Input → List ℕ → List ℕ
+work_on (good P Q F) work = replicate work_bytes 0 ++ drop work_bytes work
+work_on (bad result slice place) work = work
 
-unfoldable pub workAfter : (first second formula : List ℕ) → List ℕ → List ℕ
-workAfter first second formula work = workOn (input first second formula (length work)) work
+unfoldable pub work_after : (first second formula : List ℕ) → List ℕ → List ℕ
+work_after first second formula work = work_on (input first second formula (length work)) work

@@ -3,11 +3,11 @@ use Rattle.std.specs.Prelude.{◌≡◌, ◌↔◌, Bool, true, false, ◌&&◌,
 use Rattle.meaning.specs.Messages.Term.{Message, nodes}
 use Rattle.meaning.specs.Messages.Equation.{Equal, Normal}
 use Rattle.meaning.specs.Bytes.Standing.{Stands}
-use Rattle.message_bytes.specs.Encoding.{encodeMessage}
+use Rattle.message_bytes.specs.Encoding.{encode_message}
 
 -- If a message stands at the front, it has r nodes. If none does, nothing is said of r.
 pub record SizeOf (m : List ℕ) (r : ℕ) : Type 0 where
-  pub same : (x : Message) {end : ℕ} → Stands m 0 (encodeMessage x) end → r ≡ nodes x
+  pub same : (x : Message) {end : ℕ} → Stands m 0 (encode_message x) end → r ≡ nodes x
 
 -- The same bytes.
 unfoldable pub alike : List ℕ → List ℕ → Bool
@@ -18,4 +18,4 @@ alike (a ∷ s) (b ∷ t) = eqb a b && alike s t
 
 -- If the runs are those of two normal forms, r says whether the messages are equal by the equations.
 pub record Decides (a b : List ℕ) (r : Bool) : Type 0 where
-  pub exact : (x y : Message) → Normal x → Normal y → a ≡ encodeMessage x → b ≡ encodeMessage y → T r ↔ Equal x y
+  pub exact : (x y : Message) → Normal x → Normal y → a ≡ encode_message x → b ≡ encode_message y → T r ↔ Equal x y

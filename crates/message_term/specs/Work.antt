@@ -2,21 +2,21 @@
 use Rattle.std.specs.Prelude.{◌≡◌, Bool, true, false, List, ℕ, ◌+◌, ◌*◌, ◌≤◌, length}
 use Rattle.meaning.specs.Messages.Term.{Term}
 use Rattle.meaning.specs.Messages.Normal.{size}
-use Rattle.meaning.specs.Bytes.Encoding.{encodeTerm}
-use Rattle.meaning.specs.Bytes.Nesting.{termDepth}
+use Rattle.meaning.specs.Bytes.Encoding.{encode_term}
+use Rattle.meaning.specs.Bytes.Nesting.{term_depth}
 use Rattle.meaning.specs.Bytes.Scope.{TermScoped}
 use Rattle.meaning.specs.Bytes.Standing.{Stands}
 use Rattle.meaning.specs.Steps.State.{Bound, written, worked}
 use Rattle.meaning.specs.Judging.Limits.{over}
-use Rattle.message_bytes.specs.Encoding.{encodeMessage}
+use Rattle.message_bytes.specs.Encoding.{encode_message}
 use Rattle.message_term.specs.Bound.{BoundAt, Binds}
 use Rattle.message_term.specs.declared.work.Worked.{Worked}
 use Rattle.message_term.specs.declared.work.Worked.TheVariants.{Done, TooLarge}
 
 -- A term stands in s from at to next, with every variable in scope and at most left nodes on a path.
 pub record TermAt (s : List ℕ) (at left scope : ℕ) (t : Term) (next : ℕ) : Type 0 where
-  pub stands : Stands s at (encodeTerm t) next
-  pub deep : termDepth t ≤ left
+  pub stands : Stands s at (encode_term t) next
+  pub deep : term_depth t ≤ left
   pub scoped : TermScoped scope t
 
 -- The answer: where the term ends and where its message ends; or that it or a part of it is too large.
@@ -31,7 +31,7 @@ end_of ρ t start = start + 2 * size (written ρ t)
 -- The answer r and the bytes after the call are those for the term t under ρ, worked at the position start.
 pub record WorkedTo (ρ : Bound) (t : Term) (start next : ℕ) (r : Worked) (after : List ℕ) : Type 0 where
   pub answer : r ≡ answer_of (over ρ t) next (end_of ρ t start)
-  pub run : over ρ t ≡ false → Stands after start (encodeMessage (worked ρ t)) (end_of ρ t start)
+  pub run : over ρ t ≡ false → Stands after start (encode_message (worked ρ t)) (end_of ρ t start)
 
 -- That holds for whatever term stands at the position at and whatever messages are bound at base.
 pub record Works (s : List ℕ) (at left : ℕ) (before : List ℕ) (base start : ℕ) (r : Worked) (after : List ℕ) : Type 0 where

@@ -2,19 +2,19 @@
 use Rattle.std.specs.Prelude.{◌≡◌, Bool, true, false, List, ℕ, ◌-◌, get_or}
 use Rattle.meaning.specs.Bytes.Process.{Process}
 use Rattle.meaning.specs.Steps.State.{Bound, names}
-use Rattle.meaning.specs.Judging.Limits.{overSettling}
+use Rattle.meaning.specs.Judging.Limits.{over_settling}
 use Rattle.index_process.specs.Index.{InModel}
 use Rattle.state_head.specs.Head.{CanSettle}
 use Rattle.state_head.specs.declared.count.Counted.{Counted}
 use Rattle.state_head.specs.declared.count.Counted.TheVariants.{Names, OverLimit}
 
 -- The private name after those of a process that is settled at n; or it meets a limit.
-abbrev pub countedOf : (large : Bool) → (next : ℕ) → Counted
-countedOf true next = OverLimit
-countedOf false next = Names next
+abbrev pub counted_of : (large : Bool) → (next : ℕ) → Counted
+counted_of true next = OverLimit
+counted_of false next = Names next
 
 abbrev pub count_of : Process → Bound → ℕ → Counted
-count_of P ρ n = countedOf (overSettling P ρ n) (names P ρ n)
+count_of P ρ n = counted_of (over_settling P ρ n) (names P ρ n)
 
 -- Where the answer is not 0, whatever process stands there takes names up to one less than that, under whatever messages.
 pub record Fixed (s : List ℕ) (at n r : ℕ) : Type 0 where

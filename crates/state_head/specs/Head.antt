@@ -6,9 +6,9 @@ use Rattle.meaning.specs.Bytes.Nesting.{variables}
 use Rattle.meaning.specs.Steps.State.{Bound}
 use Rattle.message_term.specs.Bound.{BoundTo}
 use Rattle.state_record.specs.Place.{ProcessAt}
-use Rattle.state_progress.specs.TraversalResult.{Accumulated, over-limit, named}
+use Rattle.state_progress.specs.TraversalResult.{Accumulated, over_limit, named}
 use Rattle.state_task.specs.declared.task.Task.{Task}
-use Rattle.state_head.specs.News.{news, laterNews}
+use Rattle.state_head.specs.News.{news, later_news}
 use Rattle.state_head.specs.Traversal.{go}
 use Rattle.state_head.specs.declared.head.Head.{Head}
 use Rattle.index_process.specs.Index.{ShortModel}
@@ -32,11 +32,11 @@ pub record CanSettle (s : List ℕ) (at left : ℕ) (m : List ℕ) (end n : ℕ)
 
 -- The traversal of P at a position, settled at n, meets a limit, whatever its task; or it is the traversal of Q at another one, settled at k.
 pub record MeetsLimit (P : Process) (at : ℕ) (ρ : Bound) (n : ℕ) : Type 0 where
-  pub over : (T : Task) (x : Message) (g : Accumulated) → go P T x at ρ (named n g) ≡ over-limit
+  pub over : (T : Task) (x : Message) (g : Accumulated) → go P T x at ρ (named n g) ≡ over_limit
 
 pub record SameTraversal (P : Process) (at : ℕ) (ρ : Bound) (n : ℕ) (Q : Process) (to : ℕ) (σ : Bound) (k : ℕ) : Type 0 where
   pub same : (T : Task) (x : Message) (g : Accumulated) → go P T x at ρ (named n g) ≡ go Q T x to σ (named k g)
-  pub later : laterNews Q ≤ laterNews P
+  pub later : later_news Q ≤ later_news P
 
 -- A process that can be settled stands at the head h, and the traversal of P is the one over it.
 pub record HasHead (s : List ℕ) (P : Process) (at : ℕ) (ρ : Bound) (n : ℕ) (h : Head) (m : List ℕ) : Type 0 where

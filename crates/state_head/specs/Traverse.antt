@@ -3,24 +3,24 @@ use Rattle.std.specs.Prelude.{◌≡◌, false, List, [], ◌∷◌, ℕ, ◌+�
 use Rattle.meaning.specs.Messages.Term.{Message, Term}
 use Rattle.meaning.specs.Messages.Equation.{Normal}
 use Rattle.meaning.specs.Bytes.Process.{Prefix, Process}
-use Rattle.meaning.specs.Bytes.Encoding.{encodeProcess}
+use Rattle.meaning.specs.Bytes.Encoding.{encode_process}
 use Rattle.meaning.specs.Bytes.Nesting.{variables}
 use Rattle.meaning.specs.Bytes.Standing.{Stands}
 use Rattle.meaning.specs.Places.{Every}
 use Rattle.meaning.specs.Steps.State.{Bound, ◌▸◌}
 use Rattle.buffer.specs.Buffer.{Within}
-use Rattle.message_bytes.specs.Encoding.{encodeMessage}
+use Rattle.message_bytes.specs.Encoding.{encode_message}
 use Rattle.message_term.specs.Bound.{BoundTo}
 use Rattle.state_record.specs.Place.{ProcessAt, body_at, rest_at}
 use Rattle.state_progress.specs.Progress.{Extends}
 use Rattle.state_progress.specs.Represented.{Represents, RepresentsResult}
-use Rattle.state_head.specs.News.{news, laterNews}
+use Rattle.state_head.specs.News.{news, later_news}
 use Rattle.state_progress.specs.TraversalResult.{Accumulated, TraversalResult, going, further, named, returned}
 use Rattle.state_task.specs.Machine.{opened}
-use Rattle.state_head.specs.Traversal.{built, atPrefix, go}
+use Rattle.state_head.specs.Traversal.{built, at_prefix, go}
 use Rattle.state_head.specs.Head.{Passing}
 use Rattle.state_head.specs.declared.head.Head.{Head}
-use Rattle.state_task.specs.Copies.{openedBy, inCopies, lastly}
+use Rattle.state_task.specs.Copies.{opened_by, in_copies, lastly}
 use Rattle.state_task.specs.declared.task.Task.{Task}
 use Rattle.state_task.specs.declared.task.Task.TheVariants.{Count, Judge, Settle, Seek, SeekIn, Find, Build, BuildIn}
 use Rattle.state_task.specs.declared.task.Plan.{Plan}
@@ -31,20 +31,20 @@ use Rattle.state_progress.specs.declared.progress.Progress.{Progress}
 use Rattle.index_process.specs.Index.{ShortModel}
 
 -- The private names of a task, at which copies open or something is settled.
-abbrev pub numbersOf : Task → List ℕ
-numbersOf Count = []
-numbersOf (Judge k) = k ∷ []
-numbersOf Settle = []
-numbersOf (Seek q k) = k ∷ []
-numbersOf (SeekIn q c k) = k ∷ c.second ∷ []
-numbersOf (Find f past k) = k ∷ []
-numbersOf (Build b k) = k ∷ b.second ∷ b.rest ∷ b.last ∷ []
-numbersOf (BuildIn b c k) = k ∷ c.second ∷ b.second ∷ b.rest ∷ b.last ∷ []
+abbrev pub numbers_of : Task → List ℕ
+numbers_of Count = []
+numbers_of (Judge k) = k ∷ []
+numbers_of Settle = []
+numbers_of (Seek q k) = k ∷ []
+numbers_of (SeekIn q c k) = k ∷ c.second ∷ []
+numbers_of (Find f past k) = k ∷ []
+numbers_of (Build b k) = k ∷ b.second ∷ b.rest ∷ b.last ∷ []
+numbers_of (BuildIn b c k) = k ∷ c.second ∷ b.second ∷ b.rest ∷ b.last ∷ []
 
 -- Two bytes can hold every private name that the traversal may take.
 pub record NamesFit (T : Task) (n : ℕ) (P : Process) : Type 0 where
   pub own : n + news P ≤ 32760
-  pub others : Every (λ k. k + laterNews P ≤ 32760) (numbersOf T)
+  pub others : Every (λ k. k + later_news P ≤ 32760) (numbers_of T)
 
 -- The marks of the threads that act are those of an output and of an input.
 abbrev pub MarksMeant : List ℕ → Plan → Type 0
@@ -68,7 +68,7 @@ pub record Ready (s argument : List ℕ) (at left : ℕ) (m : List ℕ) (end : �
     pub process : ProcessAt s at left (length ρ) P next
     pub shallow : left ≤ 64
     pub short : ShortModel s
-    pub labelled : argument ≡ encodeMessage x
+    pub labelled : argument ≡ encode_message x
     pub small : length argument ≤ 510
     pub normal : Normal x
     pub bound : BoundTo m 0 ρ end
@@ -113,7 +113,7 @@ pub record Returns (before : ℕ) (s argument : List ℕ) (at left : ℕ) (m : L
 pub record AtPrefix (s argument : List ℕ) (at left : ℕ) (m : List ℕ) (end : ℕ) (T : Task) (out : List ℕ) (now r : Progress) (after : List ℕ) : Type 0
   where
     pub exact : (p : Prefix) (P : Process) (x : Message) (ρ : Bound) (g : Accumulated) → Ready s argument at left m end T (Process.act p P) x ρ g
-        → Represents s out now g → RepresentsResult s after r (atPrefix T x at ρ p P (λ σ. go P Settle x (rest_at at p) σ) g)
+        → Represents s out now g → RepresentsResult s after r (at_prefix T x at ρ p P (λ σ. go P Settle x (rest_at at p) σ) g)
 
 pub record ActsAs (b : Plan) (s argument : List ℕ) (at left : ℕ) (m : List ℕ) (end : ℕ) (out : List ℕ) (now r : Progress) (after : List ℕ) : Type 0
   where
@@ -125,7 +125,7 @@ pub record ActsAs (b : Plan) (s argument : List ℕ) (at left : ℕ) (m : List �
 pub record SettlesContinuation (n : ℕ) (s argument : List ℕ) (at left : ℕ) (m : List ℕ) (end : ℕ) (out : List ℕ) (now r : Progress) (after : List ℕ) : Type 0
   where
     pub exact : (p : Prefix) (P : Process) (x : Message) (ρ : Bound) (g : Accumulated) {next : ℕ}
-        → Stands s at (encodeProcess (Process.act p P)) next → Ready s argument (rest_at at p) (left - 1) m end Settle P x ρ (named n g)
+        → Stands s at (encode_process (Process.act p P)) next → Ready s argument (rest_at at p) (left - 1) m end Settle P x ρ (named n g)
         → Represents s out now g → RepresentsResult s after r (returned g.names (go P Settle x (rest_at at p) ρ (named n g)))
 
 pub record Receives (n : ℕ) (s argument : List ℕ) (at left : ℕ) (m : List ℕ) (end : ℕ) (out : List ℕ) (now r : Progress) (after : List ℕ) : Type 0
@@ -137,7 +137,7 @@ pub record Receives (n : ℕ) (s argument : List ℕ) (at left : ℕ) (m : List 
 -- A copy of a repl thread of the process P can be opened: two bytes hold every private name that it may take, and its marks are meant.
 pub record CanOpen (s : List ℕ) (P : Process) (T : Task) (n : ℕ) : Type 0 where
   pub own : n + news P ≤ 32760
-  pub others : Every (λ k. k + news P ≤ 32760) (numbersOf T)
+  pub others : Every (λ k. k + news P ≤ 32760) (numbers_of T)
   pub meant : Meant s T
 
 abbrev pub Openable : List ℕ → Process → Opening → Type 0
@@ -162,16 +162,16 @@ pub record OpensBy (o : Opening) (s argument : List ℕ) (at left : ℕ) (m : Li
     (after : List ℕ) : Type 0 where
   pub exact : (P : Process) (x : Message) (ρ : Bound) (g : Accumulated) {T : Task} → Ready s argument at left m end T (Process.repl P) x ρ g
       → Openable s P o → (d : TraversalResult) → ((h : Accumulated) → d ≡ going h → h.names ≡ g.names) → RepresentsResult s out now d
-      → RepresentsResult s after r (further d (openedBy o (copy_of at P x ρ)))
+      → RepresentsResult s after r (further d (opened_by o (copy_of at P x ρ)))
 
 pub record OpensBoth (c : Copies) (s argument : List ℕ) (at left : ℕ) (m : List ℕ) (end : ℕ) (out : List ℕ) (now r : Progress)
     (after : List ℕ) : Type 0 where
   pub exact : (P : Process) (x : Message) (ρ : Bound) (g : Accumulated) {T : Task} → Ready s argument at left m end T (Process.repl P) x ρ g
       → AllOpenable s P c → (d : TraversalResult) → ((h : Accumulated) → d ≡ going h → h.names ≡ g.names) → RepresentsResult s out now d
-      → RepresentsResult s after r (inCopies c (copy_of at P x ρ) d)
+      → RepresentsResult s after r (in_copies c (copy_of at P x ρ) d)
 
 pub record Performs (c : Copies) (s argument : List ℕ) (at left : ℕ) (m : List ℕ) (end : ℕ) (out : List ℕ) (now r : Progress)
     (after : List ℕ) : Type 0 where
   pub exact : (P : Process) (x : Message) (ρ : Bound) (g : Accumulated) {T : Task} → Ready s argument at left m end T (Process.repl P) x ρ g
       → AllOpenable s P c → (d : TraversalResult) → ((h : Accumulated) → d ≡ going h → h.names ≡ g.names) → RepresentsResult s out now d
-      → RepresentsResult s after r (further (inCopies c (copy_of at P x ρ) d) (lastly c.own at ρ P))
+      → RepresentsResult s after r (further (in_copies c (copy_of at P x ρ) d) (lastly c.own at ρ P))

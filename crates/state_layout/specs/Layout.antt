@@ -4,11 +4,11 @@ use Rattle.meaning.specs.Bytes.Process.{Process}
 use Rattle.meaning.specs.Bytes.Standing.{Stands}
 use Rattle.meaning.specs.Places.{Every}
 use Rattle.meaning.specs.Steps.State
-use Rattle.meaning.specs.Judging.Limits.{boundNodes, threadNodes, overState}
+use Rattle.meaning.specs.Judging.Limits.{bound_nodes, thread_nodes, over_state}
 use Rattle.message_term.specs.Bound.{BoundTo}
 use Rattle.state_record.specs.Place.{ProcessAt}
-use Rattle.state_record.specs.Record.{Placed, encodeRecords, Standing}
-use Rattle.state_head.specs.Settled.{threadsOf}
+use Rattle.state_record.specs.Record.{Placed, encode_records, Standing}
+use Rattle.state_head.specs.Settled.{threads_of}
 use Rattle.state_record.specs.declared.state.State as code
 use Rattle.meaning.specs.Judging.Visits.{Arrival}
 use Rattle.index_process.specs.Index.{ShortModel}
@@ -27,17 +27,17 @@ RecordsFit s out to = ShortModel s × (to ≤ length out)
 pub record StateAt (s out : List ℕ) (st : code.State) (S : State.State) : Type 0 where
   pub aliases : BoundTo out st.aliases S.aliases st.start
   pub placed : List Placed
-  pub threads : threadsOf placed ≡ S.threads
-  pub records : Stands out st.start (encodeRecords placed) st.end
+  pub threads : threads_of placed ≡ S.threads
+  pub records : Stands out st.start (encode_records placed) st.end
   pub standing : Every (Standing s) placed
   pub many : st.threads ≡ length placed
-  pub nodes : st.nodes ≡ threadNodes S.threads + boundNodes S.aliases
+  pub nodes : st.nodes ≡ thread_nodes S.threads + bound_nodes S.aliases
   pub names : st.names ≡ S.next
   pub size : st.end ≤ st.start + 28 * st.threads + 2 * st.nodes
 
 -- Whether a state, as it is reached, is over a limit.
-abbrev pub overArrival : Arrival → Bool
-overArrival A = A.large || overState A.state
+abbrev pub over_arrival : Arrival → Bool
+over_arrival A = A.large || over_state A.state
 
 -- A model stands in the slice, with its index.
 pub record ModelIn (s : List ℕ) (P : Process) : Type 0 where

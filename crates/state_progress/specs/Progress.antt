@@ -1,6 +1,6 @@
 -- How a traversal goes on from what it has come to ("Steps").
 use Rattle.std.specs.Prelude.{◌≡◌, true, false, ℕ, ◌+◌, ◌≤◌}
-use Rattle.state_record.specs.Room.{freshState}
+use Rattle.state_record.specs.Room.{fresh_state}
 use Rattle.state_progress.specs.Represented.{Over}
 use Rattle.state_progress.specs.declared.progress.Progress.{Progress}
 
@@ -36,4 +36,4 @@ pub record Renamed (now : Progress) (n : ℕ) (r : Progress) : Type 0 where
 pub record Begins (at k : ℕ) (r : Progress) : Type 0 where
   pub on : r.going ≡ true
   pub next : r.names ≡ k
-  pub state : r.state ≡ freshState at at 0
+  pub state : r.state ≡ fresh_state at at 0

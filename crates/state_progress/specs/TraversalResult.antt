@@ -2,8 +2,8 @@
 use Rattle.std.specs.Prelude.{ℕ, suc, ◌+◌, Bool, true, false, ◌||◌, List, [], ◌∷◌, ◌++◌, ltb, length}
 use Rattle.meaning.specs.Messages.Term.{Message}
 use Rattle.meaning.specs.Steps.State.{Thread}
-use Rattle.meaning.specs.Judging.Limits.{boundNodes}
-use Rattle.state_record.specs.Record.{Placed, boundOf}
+use Rattle.meaning.specs.Judging.Limits.{bound_nodes}
+use Rattle.state_record.specs.Record.{Placed, bound_of}
 
 -- The next private name, the nodes of all bound messages so far, and the threads that were written.
 pub record Accumulated : Type 0 where
@@ -15,18 +15,18 @@ pub record Accumulated : Type 0 where
 -- being opened, and the messages that it hands over.
 pub data TraversalResult : Type 0 where
   going : Accumulated → TraversalResult
-  over-limit : TraversalResult
+  over_limit : TraversalResult
   found : (place next : ℕ) → List Message → TraversalResult
 
 -- What comes next is done only by a traversal that goes on.
 abbrev pub further : TraversalResult → (Accumulated → TraversalResult) → TraversalResult
 further (going g) f = f g
-further over-limit f = over-limit
+further over_limit f = over_limit
 further (found x n ms) f = found x n ms
 
 -- A limit is met where the test says so.
 abbrev pub unless : Bool → TraversalResult → TraversalResult
-unless true c = over-limit
+unless true c = over_limit
 unless false c = c
 
 abbrev pub named : ℕ → Accumulated → Accumulated
@@ -39,9 +39,9 @@ returned n c = further c (λ h. going (named n h))
 -- A thread is written, with its limits: 32 threads, 1,024 nodes.
 unfoldable pub push : ℕ → Thread → Accumulated → TraversalResult
 push at t g =
-    unless (ltb 32 (suc (length g.threads)) || ltb 1024 (g.nodes + boundNodes (boundOf t)))
+    unless (ltb 32 (suc (length g.threads)) || ltb 1024 (g.nodes + bound_nodes (bound_of t)))
     (going (record {
       names = g.names;
-      nodes = g.nodes + boundNodes (boundOf t);
+      nodes = g.nodes + bound_nodes (bound_of t);
       threads = g.threads ++ (record { place = at; thread = t } ∷ []);
     }))

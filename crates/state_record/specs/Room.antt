@@ -5,8 +5,8 @@ use Rattle.state_record.specs.declared.state.Grown.{Grown}
 use Rattle.state_record.specs.declared.state.Grown.TheVariants.{To, Full}
 
 -- A state without threads and names.
-abbrev pub freshState : (aliases start nodes : ℕ) → State
-freshState aliases start nodes =
+abbrev pub fresh_state : (aliases start nodes : ℕ) → State
+fresh_state aliases start nodes =
     record { aliases = aliases; start = start; end = start; threads = 0; nodes = nodes; names = 0 }
 
 -- There is room for a thread, and for its record in work bytes of a length: the messages of one thread take 2,072 bytes at most.

@@ -1,6 +1,6 @@
 // The state that is being written: its limits, its records, and how full it is ("Judging and its count").
 ghost use Rattle.std.specs.Prelude.{◌≡◌};
-ghost use Rattle.state_record.specs.Room.{freshState, Grows};
+ghost use Rattle.state_record.specs.Room.{fresh_state, Grows};
 
 // Where the messages of its aliases begin in the work bytes, where the records of its threads begin and end, how many threads they are, how
 // many nodes all these messages have, and the next private name.
@@ -27,7 +27,7 @@ impl State {
 
     // A state without threads and names, whose aliases begin at a position and end where its records are to stand, and have so many nodes.
     pub fn fresh(aliases: usize, start: usize, nodes: usize) -> State
-        ensures { result ≡ freshState aliases start nodes }
+        ensures { result ≡ fresh_state aliases start nodes }
     {
         State {
             aliases: aliases,

@@ -2,9 +2,9 @@
 ghost use Rattle.std.specs.Prelude.{◌≡◌, Bool, ◌≤◌, ◌<◌, length};
 ghost use Rattle.buffer.specs.Buffer.{WrittenFrom};
 ghost use Rattle.state_progress.specs.Progress.{Extends};
-ghost use Rattle.state_task.specs.Copies.{within, judging, seeking, target, seekingIn, passes, finding, taken, builder, rebuilt, buildingIn};
+ghost use Rattle.state_task.specs.Copies.{within, judging, seeking, target, seeking_in, passes, finding, taken, builder, rebuilt, building_in};
 ghost use Rattle.state_replication.specs.Decided.{Decided};
-ghost use Rattle.state_task.specs.Copies.{copiesAt};
+ghost use Rattle.state_task.specs.Copies.{copies_at};
 ghost use Rattle.state_replication.specs.Decided.{Begins, Finishes};
 
 use state_progress::progress::Progress;
@@ -65,7 +65,7 @@ fn target(quest: Quest, copies: CopyAt, opens: usize) -> Opening
 // The same, there or on the way to it.
 fn seek_in(s: &[u8], at: usize, quest: Quest, copies: CopyAt, opens: usize) -> Opening
     requires { at < 36864 }
-    ensures { Decided Opening s.now at (seekingIn quest copies opens at) result }
+    ensures { Decided Opening s.now at (seeking_in quest copies opens at) result }
 {
     let mark = copies.place;
     if at + 1 == mark {
@@ -170,7 +170,7 @@ fn rebuilt(plan: Plan, copies: CopyAt, opens: usize) -> Copies
 // The same, there or on the way to it.
 fn build_in(s: &[u8], at: usize, plan: Plan, copies: CopyAt, opens: usize) -> Copies
     requires { at < 36864 }
-    ensures { Decided Copies s.now at (buildingIn plan copies opens at) result }
+    ensures { Decided Copies s.now at (building_in plan copies opens at) result }
 {
     let mark = copies.place;
     if at + 1 == mark {
@@ -191,7 +191,7 @@ fn build_in(s: &[u8], at: usize, plan: Plan, copies: CopyAt, opens: usize) -> Co
 // What a task does at the repl thread at a position, if names is the next private name.
 pub fn needed(s: &[u8], at: usize, task: Task, names: usize) -> Copies
     requires { at < 36864 }
-    ensures { Decided Copies s.now at (copiesAt task at names) result }
+    ensures { Decided Copies s.now at (copies_at task at names) result }
 {
     match task {
         Task::Count => Copies {

@@ -1,6 +1,6 @@
 -- What a call of the traversal that seeks promises: it shows the course of the traversal of that task ("Steps").
 use Rattle.std.specs.Prelude.{◌≡◌, true, false, List, ℕ}
-use Rattle.state_record.specs.Room.{freshState}
+use Rattle.state_record.specs.Room.{fresh_state}
 use Rattle.state_progress.specs.Progress.{Renamed}
 use Rattle.state_progress.specs.declared.progress.Progress.{Progress}
 use Rattle.state_task.specs.declared.task.Quest.{Quest}
@@ -10,11 +10,11 @@ use Rattle.state_search.specs.declared.seek.Sought.{Sought}
 use Rattle.state_search.specs.declared.seek.Sought.TheVariants.{On, Ended}
 
 -- A traversal that has come to nothing yet and hands messages over from the position to on; and what one has come to by its numbers.
-abbrev pub begunAt : (to n : ℕ) → Progress
-begunAt to n = record { going = true; names = n; mark = 0; sent = 0; state = freshState to to 0 }
+abbrev pub begun_at : (to n : ℕ) → Progress
+begun_at to n = record { going = true; names = n; mark = 0; sent = 0; state = fresh_state to to 0 }
 
 abbrev pub reached : (to : ℕ) → Sought → Progress
-reached to (On n) = begunAt to n
+reached to (On n) = begun_at to n
 reached to (Ended n mark sent end) = record {
   going = false;
   names = n;
@@ -35,12 +35,12 @@ pub record GivesBack (now : Sought) (n : ℕ) (r : Sought) : Type 0 where
 -- the same, if that process is of a kind; and a copy of a repl thread.
 pub record SeekTraverses (s argument : List ℕ) (at left : ℕ) (m : List ℕ) (end : ℕ) (q : Quest) (n k to : ℕ) (out : List ℕ) (r : Sought) (after : List ℕ)
     : Type 0 where
-  pub traverses : Traverses s argument at left m end (Seek q k) out (begunAt to n) (reached to r) after
+  pub traverses : Traverses s argument at left m end (Seek q k) out (begun_at to n) (reached to r) after
 
 pub record SeekTraversesIf (kind : ℕ) (s argument : List ℕ) (at left : ℕ) (m : List ℕ) (end : ℕ) (q : Quest) (n k to : ℕ) (out : List ℕ) (r : Sought)
     (after : List ℕ) : Type 0 where
-  pub traverses : TraversesIf kind s argument at left m end (Seek q k) out (begunAt to n) (reached to r) after
+  pub traverses : TraversesIf kind s argument at left m end (Seek q k) out (begun_at to n) (reached to r) after
 
 pub record SeekOpens (s argument : List ℕ) (at left : ℕ) (m : List ℕ) (end : ℕ) (q : Quest) (n k to : ℕ) (out : List ℕ) (r : Sought) (after : List ℕ)
     : Type 0 where
-  pub opens : Opens (Seek q k) k s argument at left m end out (begunAt to n) (reached to r) after
+  pub opens : Opens (Seek q k) k s argument at left m end out (begun_at to n) (reached to r) after

@@ -3,7 +3,7 @@
 ghost use Rattle.std.specs.Prelude.{◌≡◌, ◌+◌, ◌≤◌, ◌<◌, length};
 ghost use Rattle.buffer.specs.Buffer.{WrittenFrom};
 ghost use Rattle.state_task.specs.Thread.{Seeks};
-ghost use Rattle.state_search.specs.Seek.{begunAt, reached, GivesBack, Comes, SeekTraverses, SeekTraversesIf, SeekOpens};
+ghost use Rattle.state_search.specs.Seek.{begun_at, reached, GivesBack, Comes, SeekTraverses, SeekTraversesIf, SeekOpens};
 ghost use Rattle.state_head.specs.Head.{RoomAtNode, BoundFits};
 ghost use Rattle.index_process.specs.Index.{ShortModel};
 
@@ -94,7 +94,7 @@ fn own(
     requires { (at < length s.now) × (end + 4606 ≤ length m.old) × (ShortModel s.now) }
     ensures written_from { WrittenFrom end m.old m.new }
     ensures written_from_2 { WrittenFrom to out.old out.new }
-    ensures seeks { Seeks s.now argument.now at m.old end quest opens out.old (begunAt to names) (reached to result) out.new }
+    ensures seeks { Seeks s.now argument.now at m.old end quest opens out.old (begun_at to names) (reached to result) out.new }
 {
     if thread::meant(quest, at, word::wide(s[at])) {
         let begun = progress(Sought::On(names), to);

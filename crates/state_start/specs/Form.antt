@@ -2,9 +2,9 @@
 use Rattle.std.specs.Prelude.{◌≡◌, true, false, List, ℕ, ◌≤◌, ◌<◌}
 use Rattle.meaning.specs.Bytes.Process.{Process}
 use Rattle.meaning.specs.Steps.State
-use Rattle.meaning.specs.Judging.Visits.{Arrival, startArrival}
+use Rattle.meaning.specs.Judging.Visits.{Arrival, start_arrival}
 use Rattle.state_record.specs.declared.state.State as code
-use Rattle.state_layout.specs.Layout.{StateAt, overArrival, ModelIn}
+use Rattle.state_layout.specs.Layout.{StateAt, over_arrival, ModelIn}
 use Rattle.state_start.specs.declared.form.Formed.{Formed}
 use Rattle.state_start.specs.declared.form.Formed.TheVariants.{At, OverLimit}
 use Rattle.state_progress.specs.declared.progress.Progress.{Progress}
@@ -12,12 +12,12 @@ use Rattle.state_progress.specs.declared.progress.Progress.{Progress}
 -- The answer is none exactly where the state that is reached is over a limit; otherwise that state stands in the work bytes from a position
 -- on.
 pub record Forms (s : List ℕ) (begin : ℕ) (A : Arrival) (r : Formed) (out : List ℕ) : Type 0 where
-  pub none : overArrival A ≡ true → r ≡ OverLimit
-  pub some : overArrival A ≡ false → (st : code.State) × (r ≡ At st) × StateAt s out st A.state × (st.aliases ≡ begin)
+  pub none : over_arrival A ≡ true → r ≡ OverLimit
+  pub some : over_arrival A ≡ false → (st : code.State) × (r ≡ At st) × StateAt s out st A.state × (st.aliases ≡ begin)
 
 -- The start state of whatever model stands there.
 pub record Starts (s : List ℕ) (begin : ℕ) (r : Formed) (out : List ℕ) : Type 0 where
-  pub exact : (P : Process) → ModelIn s P → Forms s begin (startArrival P) r out
+  pub exact : (P : Process) → ModelIn s P → Forms s begin (start_arrival P) r out
 
 -- What a traversal has come to, as a state with the names that it has made, and as an answer.
 abbrev pub state_of : Progress → code.State

@@ -38,8 +38,8 @@ target q c k =
       | false ↦ elim (eqb c.arity 1) [ true ↦ Again (Seek q c.second) k | false ↦ Copy (Seek q k) c.second ]
     ]
 
-unfoldable pub seekingIn : Quest → CopyAt → ℕ → (at : ℕ) → Process → Opening
-seekingIn q c k at P =
+unfoldable pub seeking_in : Quest → CopyAt → ℕ → (at : ℕ) → Process → Opening
+seeking_in q c k at P =
     elim (eqb (at + 1) c.place) [ true ↦ target q c k | false ↦ within c.place (Copy (SeekIn q c k) k) at P ]
 
 -- A repl thread is found, if neither it nor one in its copy is passed.
@@ -67,29 +67,29 @@ rebuilt b c k =
       | false ↦ one After (Copy (Build b k) k)
     ]
 
-unfoldable pub buildingIn : Plan → CopyAt → ℕ → (at : ℕ) → Process → Copies
-buildingIn b c k at P =
+unfoldable pub building_in : Plan → CopyAt → ℕ → (at : ℕ) → Process → Copies
+building_in b c k at P =
     elim (eqb (at + 1) c.place) [
       | true ↦ rebuilt b c k
       | false ↦ one After (within c.place (Copy (BuildIn b c k) k) at P)
     ]
 
 -- What each task does at a repl thread of the process P that stands at a position, if n is the next private name.
-abbrev pub copiesAt : Task → (at n : ℕ) → Process → Copies
-copiesAt Count at n P = one Passed None
-copiesAt (Judge k) at n P = judging Passed k
-copiesAt Settle at n P = judging Before n
-copiesAt (Seek q k) at n P = one Passed (seeking q k at P)
-copiesAt (SeekIn q c k) at n P = one Passed (seekingIn q c k at P)
-copiesAt (Find f past k) at n P = finding f past k at P
-copiesAt (Build b k) at n P = one After (builder b k at P)
-copiesAt (BuildIn b c k) at n P = buildingIn b c k at P
+abbrev pub copies_at : Task → (at n : ℕ) → Process → Copies
+copies_at Count at n P = one Passed None
+copies_at (Judge k) at n P = judging Passed k
+copies_at Settle at n P = judging Before n
+copies_at (Seek q k) at n P = one Passed (seeking q k at P)
+copies_at (SeekIn q c k) at n P = one Passed (seeking_in q c k at P)
+copies_at (Find f past k) at n P = finding f past k at P
+copies_at (Build b k) at n P = one After (builder b k at P)
+copies_at (BuildIn b c k) at n P = building_in b c k at P
 
 -- It is done: in a copy, and with the thread itself, before and after.
-abbrev pub openedBy : Opening → (Task → Accumulated → TraversalResult) → Accumulated → TraversalResult
-openedBy None copy g = going g
-openedBy (Copy T n) copy g = opened copy T n g
-openedBy (Again T n) copy g = returned g.names (copy T (named n g))
+abbrev pub opened_by : Opening → (Task → Accumulated → TraversalResult) → Accumulated → TraversalResult
+opened_by None copy g = going g
+opened_by (Copy T n) copy g = opened copy T n g
+opened_by (Again T n) copy g = returned g.names (copy T (named n g))
 
 abbrev pub firstly : Own → (at : ℕ) → Bound → Process → Accumulated → TraversalResult
 firstly Passed at ρ P g = going g
@@ -104,8 +104,8 @@ lastly After at ρ P g = push at (repl ρ P) g
 lastly (Found k) at ρ P g = found at k []
 
 -- After what has come before, the copies are opened and the thread is done with; and all of it.
-abbrev pub inCopies : Copies → (Task → Accumulated → TraversalResult) → TraversalResult → TraversalResult
-inCopies c copy d = further (further d (openedBy c.first copy)) (openedBy c.second copy)
+abbrev pub in_copies : Copies → (Task → Accumulated → TraversalResult) → TraversalResult → TraversalResult
+in_copies c copy d = further (further d (opened_by c.first copy)) (opened_by c.second copy)
 
 abbrev pub performed : Copies → (at : ℕ) → Bound → Process → (Task → Accumulated → TraversalResult) → Accumulated → TraversalResult
-performed c at ρ P copy g = further (inCopies c copy (firstly c.own at ρ P g)) (lastly c.own at ρ P)
+performed c at ρ P copy g = further (in_copies c copy (firstly c.own at ρ P g)) (lastly c.own at ρ P)

@@ -3,9 +3,9 @@ use Rattle.std.specs.Prelude.{ℕ, ◌+◌, Bool, true, false, not, ◌&&◌, �
 use Rattle.meaning.specs.Messages.Term.{Message}
 use Rattle.meaning.specs.Messages.Normal.{same}
 use Rattle.meaning.specs.Bytes.Process.{Prefix, output, input, Process}
-use Rattle.meaning.specs.Bytes.Encoding.{encodeProcess}
+use Rattle.meaning.specs.Bytes.Encoding.{encode_process}
 use Rattle.meaning.specs.Steps.State.{Bound, worked, repl}
-use Rattle.meaning.specs.Judging.Limits.{over, overPrefix}
+use Rattle.meaning.specs.Judging.Limits.{over, over_prefix}
 use Rattle.state_progress.specs.TraversalResult.{Accumulated, TraversalResult, going, found, further, unless, named, returned, push}
 use Rattle.state_task.specs.declared.task.Task.{Task}
 use Rattle.state_task.specs.declared.task.Task.TheVariants.{Count, Judge, Settle, Seek, SeekIn, Find, Build, BuildIn}
@@ -15,7 +15,7 @@ use Rattle.state_task.specs.declared.task.Plan.{Plan}
 
 -- The mark is one of the process P, which stands at a position.
 unfoldable pub contains : (mark at : ℕ) → Process → Bool
-contains mark at P = ltb at mark && not (ltb (at + length (encodeProcess P)) mark)
+contains mark at P = ltb at mark && not (ltb (at + length (encode_process P)) mark)
 
 -- The task inside a copy whose names are counted: copies inside it open at n.
 unfoldable pub opening : Task → ℕ → Task
@@ -40,7 +40,7 @@ opened copy T n g = further (copy Count (named n g)) (λ h. returned g.names (co
 
 -- Channel and message of a thread's own offer are judged.
 unfoldable pub offered : Bound → Prefix → Process → Accumulated → TraversalResult
-offered ρ p P g = unless (overPrefix ρ p P g.names) (going g)
+offered ρ p P g = unless (over_prefix ρ p P g.names) (going g)
 
 -- Whether an output (kind 2) or an input at a position is one that is looked for, but for its channel.
 unfoldable pub eligible : Quest → (at kind : ℕ) → Bool
@@ -66,8 +66,8 @@ sought q k x at ρ (input C) g =
 
 -- The copies of the repl thread that was meant: its first one, the same one once more, with copies inside it opening at another name, or a
 -- second one.
-unfoldable pub soughtIn : Quest → CopyAt → ℕ → (Task → Accumulated → TraversalResult) → Accumulated → TraversalResult
-soughtIn q c k copy g =
+unfoldable pub sought_in : Quest → CopyAt → ℕ → (Task → Accumulated → TraversalResult) → Accumulated → TraversalResult
+sought_in q c k copy g =
     elim (eqb c.arity 0) [
       | true ↦ opened copy (Seek q k) k g
       | false ↦ elim (eqb c.arity 1) [
@@ -77,8 +77,8 @@ soughtIn q c k copy g =
     ]
 
 -- What a step leaves of the copies of a repl thread: of a thread that is in the process P, or of the repl thread that was meant.
-unfoldable pub builtCopy : Plan → ℕ → (at : ℕ) → Process → (Task → Accumulated → TraversalResult) → Accumulated → TraversalResult
-builtCopy b k at P copy g =
+unfoldable pub built_copy : Plan → ℕ → (at : ℕ) → Process → (Task → Accumulated → TraversalResult) → Accumulated → TraversalResult
+built_copy b k at P copy g =
     elim (contains b.sender (at + 1) P) [
       | true ↦ opened copy (Build b k) k g
       | false ↦ elim (contains b.taker (at + 1) P) [
@@ -87,26 +87,26 @@ builtCopy b k at P copy g =
       ]
     ]
 
-unfoldable pub builtCopies : Plan → CopyAt → ℕ → (Task → Accumulated → TraversalResult) → Accumulated → TraversalResult
-builtCopies b c k copy g =
+unfoldable pub built_copies : Plan → CopyAt → ℕ → (Task → Accumulated → TraversalResult) → Accumulated → TraversalResult
+built_copies b c k copy g =
     elim (eqb c.arity 2) [
       | true ↦ further (opened copy (Build (sending b) k) k g) (opened copy (Build (taking b) k) c.second)
       | false ↦ opened copy (Build b k) k g
     ]
 
 -- What is done at a repl thread.
-unfoldable pub atRepl : Task → (at : ℕ) → Bound → Process → (Task → Accumulated → TraversalResult) → Accumulated → TraversalResult
-atRepl Count at ρ P copy g = going g
-atRepl (Judge k) at ρ P copy g = opened copy (Judge k) k g
-atRepl Settle at ρ P copy g = further (push at (repl ρ P) g) (λ h. opened copy (Judge h.names) h.names h)
-atRepl (Seek q k) at ρ P copy g =
+unfoldable pub at_repl : Task → (at : ℕ) → Bound → Process → (Task → Accumulated → TraversalResult) → Accumulated → TraversalResult
+at_repl Count at ρ P copy g = going g
+at_repl (Judge k) at ρ P copy g = opened copy (Judge k) k g
+at_repl Settle at ρ P copy g = further (push at (repl ρ P) g) (λ h. opened copy (Judge h.names) h.names h)
+at_repl (Seek q k) at ρ P copy g =
     elim (contains q.excluded (at + 1) P) [ true ↦ going g | false ↦ opened copy (Seek q k) k g ]
-atRepl (SeekIn q c k) at ρ P copy g =
+at_repl (SeekIn q c k) at ρ P copy g =
     elim (eqb (at + 1) c.place) [
-      | true ↦ soughtIn q c k copy g
+      | true ↦ sought_in q c k copy g
       | false ↦ elim (contains c.place (at + 1) P) [ true ↦ opened copy (SeekIn q c k) k g | false ↦ going g ]
     ]
-atRepl (Find f past k) at ρ P copy g =
+at_repl (Find f past k) at ρ P copy g =
     elim (eqb (at + 1) f) [
       | true ↦ elim past [ true ↦ going g | false ↦ found at k [] ]
       | false ↦ elim (ltb (at + 1) f && not (contains f (at + 1) P)) [
@@ -114,11 +114,11 @@ atRepl (Find f past k) at ρ P copy g =
         | false ↦ further (opened copy (Find f past k) k g) (λ h. found at k [])
       ]
     ]
-atRepl (Build b k) at ρ P copy g = further (builtCopy b k at P copy g) (push at (repl ρ P))
-atRepl (BuildIn b c k) at ρ P copy g =
+at_repl (Build b k) at ρ P copy g = further (built_copy b k at P copy g) (push at (repl ρ P))
+at_repl (BuildIn b c k) at ρ P copy g =
     further (
     elim (eqb (at + 1) c.place) [
-      | true ↦ builtCopies b c k copy g
+      | true ↦ built_copies b c k copy g
       | false ↦ elim (contains c.place (at + 1) P) [ true ↦ opened copy (BuildIn b c k) k g | false ↦ going g ]
     ]
     ) (push at (repl ρ P))

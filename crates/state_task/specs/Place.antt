@@ -1,7 +1,7 @@
 -- Positions in a process: the branch of an if, whether a mark is in it, and where stands what follows a thread ("Steps").
 use Rattle.std.specs.Prelude.{◌≡◌, Bool, true, false, List, ℕ}
 use Rattle.meaning.specs.Bytes.Process.{Prefix, Process}
-use Rattle.meaning.specs.Bytes.Encoding.{encodeProcess}
+use Rattle.meaning.specs.Bytes.Encoding.{encode_process}
 use Rattle.meaning.specs.Bytes.Standing.{Stands}
 use Rattle.meaning.specs.Steps.State.{act}
 use Rattle.index_process.specs.Index.{InModel, Ends}
@@ -18,4 +18,4 @@ pub record Contains (s : List ℕ) (at mark : ℕ) (r : Bool) : Type 0 where
   pub exact : (P : Process) {next : ℕ} → InModel s at P next → r ≡ contains mark at P
 
 pub record Rests (s : List ℕ) (at r : ℕ) : Type 0 where
-  pub exact : (p : Prefix) (P : Process) {next : ℕ} → Stands s at (encodeProcess (Process.act p P)) next → r ≡ rest_at at p
+  pub exact : (p : Prefix) (P : Process) {next : ℕ} → Stands s at (encode_process (Process.act p P)) next → r ≡ rest_at at p

@@ -6,13 +6,13 @@ use Rattle.meaning.specs.Bytes.Process.{Prefix, Process}
 use Rattle.meaning.specs.Bytes.Standing.{Stands}
 use Rattle.meaning.specs.Steps.State.{Bound, worked, act}
 use Rattle.meaning.specs.Judging.Limits.{over}
-use Rattle.message_bytes.specs.Encoding.{encodeMessage}
+use Rattle.message_bytes.specs.Encoding.{encode_message}
 use Rattle.message_term.specs.Bound.{BoundTo}
 use Rattle.message_term.specs.Work.{TermAt}
 use Rattle.state_record.specs.Place.{ProcessAt, body_at}
 use Rattle.state_progress.specs.TraversalResult.{Accumulated, TraversalResult, going, found, further, unless, push}
 use Rattle.state_task.specs.Machine.{offered, sought}
-use Rattle.state_progress.specs.Represented.{Represents, RepresentsResult, Over, encodeMessages}
+use Rattle.state_progress.specs.Represented.{Represents, RepresentsResult, Over, encode_messages}
 use Rattle.state_task.specs.declared.task.Quest.{Quest}
 use Rattle.state_progress.specs.declared.progress.Progress.{Progress}
 
@@ -35,38 +35,38 @@ pub record Settles (s : List ℕ) (at : ℕ) (m : List ℕ) (end : ℕ) (out : L
 
 -- Two runs are those of one message, or any will do.
 pub record Agrees (any : Bool) (channel argument : List ℕ) (r : Bool) : Type 0 where
-  pub exact : (x y : Message) → channel ≡ encodeMessage x → argument ≡ encodeMessage y → r ≡ (any || same x y)
+  pub exact : (x y : Message) → channel ≡ encode_message x → argument ≡ encode_message y → r ≡ (any || same x y)
 
 -- The two messages that stand one after the other in m are handed over.
 pub record HandsMessages (m : List ℕ) (from to at next : ℕ) (out : List ℕ) (now r : Progress) (after : List ℕ) : Type 0 where
-  pub exact : (s : List ℕ) (g : Accumulated) (x y : Message) → Stands m from (encodeMessages (x ∷ y ∷ [])) to → to ≤ from + 1020 → Represents s out now g
+  pub exact : (s : List ℕ) (g : Accumulated) (x y : Message) → Stands m from (encode_messages (x ∷ y ∷ [])) to → to ≤ from + 1020 → Represents s out now g
       → RepresentsResult s after r (found at next (x ∷ y ∷ []))
 
 -- The offer of whatever thread stands at the position at: whose channel is the one that is looked for; whose channel is compared; and which
 -- is looked at.
-abbrev pub handedOver : ℕ → ℕ → Bound → Prefix → TraversalResult
-handedOver at k ρ (Prefix.output C M) = unless (over ρ M) (found at k (worked ρ C ∷ worked ρ M ∷ []))
-handedOver at k ρ (Prefix.input C) = found at k []
+abbrev pub handed_over : ℕ → ℕ → Bound → Prefix → TraversalResult
+handed_over at k ρ (Prefix.output C M) = unless (over ρ M) (found at k (worked ρ C ∷ worked ρ M ∷ []))
+handed_over at k ρ (Prefix.input C) = found at k []
 
-abbrev pub channelOf : Prefix → Term
-channelOf (Prefix.output C M) = C
-channelOf (Prefix.input C) = C
+abbrev pub channel_of : Prefix → Term
+channel_of (Prefix.output C M) = C
+channel_of (Prefix.input C) = C
 
 pub record Hands (s : List ℕ) (at next : ℕ) (m : List ℕ) (end last k : ℕ) (out : List ℕ) (now r : Progress) (after : List ℕ) : Type 0 where
   pub exact : (p : Prefix) (P : Process) (ρ : Bound) (g : Accumulated) {left stop : ℕ}
-      → ProcessAt s at left (length ρ) (Process.act p P) stop → BoundTo m 0 ρ end → next ≡ body_at at (channelOf p)
-      → Stands m end (encodeMessage (worked ρ (channelOf p))) last → last ≤ end + 510 → Represents s out now g
-      → RepresentsResult s after r (handedOver at k ρ p)
+      → ProcessAt s at left (length ρ) (Process.act p P) stop → BoundTo m 0 ρ end → next ≡ body_at at (channel_of p)
+      → Stands m end (encode_message (worked ρ (channel_of p))) last → last ≤ end + 510 → Represents s out now g
+      → RepresentsResult s after r (handed_over at k ρ p)
 
 pub record Channels (s argument : List ℕ) (at : ℕ) (m : List ℕ) (end : ℕ) (any : Bool) (k : ℕ) (out : List ℕ) (now r : Progress) (after : List ℕ)
     : Type 0 where
   pub exact : (p : Prefix) (P : Process) (x : Message) (ρ : Bound) (g : Accumulated) {left stop : ℕ}
-      → ProcessAt s at left (length ρ) (Process.act p P) stop → BoundTo m 0 ρ end → argument ≡ encodeMessage x → Represents s out now g
-      → RepresentsResult s after r (unless (over ρ (channelOf p)) (
-      elim (any || same (worked ρ (channelOf p)) x) [ true ↦ handedOver at k ρ p | false ↦ going g ]))
+      → ProcessAt s at left (length ρ) (Process.act p P) stop → BoundTo m 0 ρ end → argument ≡ encode_message x → Represents s out now g
+      → RepresentsResult s after r (unless (over ρ (channel_of p)) (
+      elim (any || same (worked ρ (channel_of p)) x) [ true ↦ handed_over at k ρ p | false ↦ going g ]))
 
 pub record Seeks (s argument : List ℕ) (at : ℕ) (m : List ℕ) (end : ℕ) (q : Quest) (k : ℕ) (out : List ℕ) (now r : Progress) (after : List ℕ)
     : Type 0 where
   pub exact : (p : Prefix) (P : Process) (x : Message) (ρ : Bound) (g : Accumulated) {left stop : ℕ}
-      → ProcessAt s at left (length ρ) (Process.act p P) stop → BoundTo m 0 ρ end → argument ≡ encodeMessage x → Represents s out now g
+      → ProcessAt s at left (length ρ) (Process.act p P) stop → BoundTo m 0 ρ end → argument ≡ encode_message x → Represents s out now g
       → RepresentsResult s after r (sought q k x at ρ p g)

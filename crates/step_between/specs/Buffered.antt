@@ -1,9 +1,9 @@
 -- What a step sends, and on what, in two slices that stay from one step to the next ("Steps").
 use Rattle.std.specs.Prelude.{◌≡◌, List, [], ◌∷◌, ℕ, length}
 use Rattle.meaning.specs.Bytes.Standing.{Stands}
-use Rattle.message_bytes.specs.Encoding.{encodeMessage}
+use Rattle.message_bytes.specs.Encoding.{encode_message}
 use Rattle.step_transition.specs.Moves.{Move, alone, inside, between}
-use Rattle.step_transition.specs.CopyOffers.{channelOf}
+use Rattle.step_transition.specs.CopyOffers.{channel_of}
 use Rattle.step_transition.specs.Step.{step_of, run_of}
 use Rattle.step_transition.specs.Behind.{Behind, all, later}
 use Rattle.step_label.specs.declared.step.Step as step
@@ -12,14 +12,14 @@ use Rattle.step_label.specs.declared.step.Next.{Next}
 use Rattle.step_label.specs.declared.step.Next.TheVariants as next
 
 -- The run of the channel of a step of two threads. For other steps none is kept.
-unfoldable pub channelRun : Move → List ℕ
-channelRun (alone p a) = []
-channelRun (inside p w) = []
-channelRun (between p q w) = encodeMessage (channelOf w.sender)
+unfoldable pub channel_run : Move → List ℕ
+channel_run (alone p a) = []
+channel_run (inside p w) = []
+channel_run (between p q w) = encode_message (channel_of w.sender)
 
 -- The channel and what is sent stand at the fronts of two slices.
 pub record Buffered (channel message : List ℕ) (w : Move) : Type 0 where
-  pub on : Stands channel 0 (channelRun w) (length (channelRun w))
+  pub on : Stands channel 0 (channel_run w) (length (channel_run w))
   pub sent : Stands message 0 (run_of w) (length (run_of w))
 
 -- The answer is the first of these moves, with what it sends and on what; or none.

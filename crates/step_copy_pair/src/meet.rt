@@ -2,7 +2,7 @@
 ghost use Rattle.std.specs.Prelude.{◌≡◌, ◌+◌, ◌≤◌, length};
 ghost use Rattle.buffer.specs.Buffer.{SameLength, WrittenFrom};
 ghost use Rattle.step_copy_pair.specs.Meet.{copy_at, Looks, NextCopySender, PairsIn, Pairs, NextPair, Meets};
-ghost use Rattle.step_transition.specs.CopyOffers.{inputs, leftOut};
+ghost use Rattle.step_transition.specs.CopyOffers.{inputs, left_out};
 ghost use Rattle.index_process.specs.Index.{ShortModel};
 ghost use Rattle.state_layout.specs.Layout.{RecordFits};
 
@@ -82,7 +82,7 @@ fn sender(
 
 // The mark of the sender if one copy takes part, where a thread does not meet itself; otherwise none.
 fn left_out(arity: usize, mark: usize) -> usize
-    ensures { result ≡ leftOut arity mark }
+    ensures { result ≡ left_out arity mark }
 {
     if arity == 1 {
         return mark;
@@ -107,7 +107,7 @@ fn taker(
     requires { RecordFits s.now out.old at }
     ensures written_from { WrittenFrom 0 m.old m.new }
     ensures written_from_2 { WrittenFrom to out.old out.new }
-    ensures looks { Looks s.now argument.now at names to m.old (inputs from (leftOut arity sender.mark)) (copy_at copy arity sender.names) out.old result out.new }
+    ensures looks { Looks s.now argument.now at names to m.old (inputs from (left_out arity sender.mark)) (copy_at copy arity sender.names) out.old result out.new }
 {
     look(
         s,

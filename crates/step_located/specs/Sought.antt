@@ -4,9 +4,9 @@ use Rattle.meaning.specs.Messages.Term.{leaf, private, Message}
 use Rattle.meaning.specs.Messages.Normal.{equal, same}
 use Rattle.meaning.specs.Bytes.Process.{Prefix, output, input, Process}
 use Rattle.meaning.specs.Steps.State.{Bound, ◌▸◌, written, worked, names}
-use Rattle.state_record.specs.Place.{thenAt, elseAt, body_at, rightAt}
-use Rattle.step_located.specs.Located.{LocatedOffer, locatedOffers}
-use Rattle.step_located.specs.CopyStep.{locatedOffersExcept}
+use Rattle.state_record.specs.Place.{then_at, else_at, body_at, right_at}
+use Rattle.step_located.specs.Located.{LocatedOffer, located_offers}
+use Rattle.step_located.specs.CopyStep.{located_offers_except}
 use Rattle.state_progress.specs.TraversalResult.{TraversalResult, found}
 use Rattle.state_task.specs.declared.task.Quest.{Quest}
 
@@ -19,8 +19,8 @@ wanted q x a = of a.prefix
     of (input C) = not q.output && not (ltb a.place q.from) && (q.any || same (worked a.bound C) x)
 
 -- The messages that it hands over.
-unfoldable pub sentBy : LocatedOffer → List Message
-sentBy a = of a.prefix
+unfoldable pub sent_by : LocatedOffer → List Message
+sent_by a = of a.prefix
   where
     of : Prefix → List Message
     of (output C M) = worked a.bound C ∷ worked a.bound M ∷ []
@@ -29,11 +29,11 @@ sentBy a = of a.prefix
 -- The first of these offers, or the course c.
 unfoldable pub first : Quest → Message → List LocatedOffer → TraversalResult → TraversalResult
 first q x [] c = c
-first q x (a ∷ others) c = elim (wanted q x a) [ true ↦ found a.place a.next (sentBy a) | false ↦ first q x others c ]
+first q x (a ∷ others) c = elim (wanted q x a) [ true ↦ found a.place a.next (sent_by a) | false ↦ first q x others c ]
 
 -- The offers of all threads, or of those that do not have the position of a mark in them.
-unfoldable pub offersExcept : (excluded : ℕ) → Process → (at : ℕ) → Bound → (n k : ℕ) → List LocatedOffer
-offersExcept excluded P at ρ n k = elim (eqb excluded 0) [ true ↦ locatedOffers P at ρ n k | false ↦ locatedOffersExcept (excluded - 1) P at ρ n k ]
+unfoldable pub offers_except : (excluded : ℕ) → Process → (at : ℕ) → Bound → (n k : ℕ) → List LocatedOffer
+offers_except excluded P at ρ n k = elim (eqb excluded 0) [ true ↦ located_offers P at ρ n k | false ↦ located_offers_except (excluded - 1) P at ρ n k ]
 
 -- A repl thread: its position, its bound messages and its process, and the private name at which its copy opens.
 pub record Opened : Type 0 where
@@ -48,13 +48,13 @@ copies Process.nil at ρ n k = []
 copies (Process.new P) at ρ n k = copies P (at + 1) (ρ ▸ leaf (private n)) (suc n) k
 copies (Process.act p P) at ρ n k = []
 copies (Process.if M N P Q) at ρ n k =
-    elim (equal (written ρ M) (written ρ N)) [ true ↦ copies P (thenAt at M N) ρ n k | false ↦ copies Q (elseAt at M N P) ρ n k ]
-copies (Process.let-in M P) at ρ n k = copies P (body_at at M) (ρ ▸ worked ρ M) n k
-copies (Process.par P Q) at ρ n k = copies P (at + 1) ρ n k ++ copies Q (rightAt at P) ρ (names P ρ n) k
+    elim (equal (written ρ M) (written ρ N)) [ true ↦ copies P (then_at at M N) ρ n k | false ↦ copies Q (else_at at M N P) ρ n k ]
+copies (Process.let_in M P) at ρ n k = copies P (body_at at M) (ρ ▸ worked ρ M) n k
+copies (Process.par P Q) at ρ n k = copies P (at + 1) ρ n k ++ copies Q (right_at at P) ρ (names P ρ n) k
 copies (Process.repl P) at ρ n k =
     copies P (at + 1) ρ k (names P ρ k) ++ (record { place = at; bound = ρ; copied = P; opens = k } ∷ [])
 
 -- The first of these, or the course c.
-unfoldable pub firstCopy : List Opened → TraversalResult → TraversalResult
-firstCopy [] c = c
-firstCopy (w ∷ ws) c = found w.place w.opens []
+unfoldable pub first_copy : List Opened → TraversalResult → TraversalResult
+first_copy [] c = c
+first_copy (w ∷ ws) c = found w.place w.opens []

@@ -4,7 +4,7 @@ use Rattle.meaning.specs.Messages.Term.{Message}
 use Rattle.meaning.specs.Steps.State.{State}
 use Rattle.state_record.specs.Record.{Placed}
 use Rattle.state_record.specs.declared.state.State as code
-use Rattle.step_transition.specs.Moves.{Move, silentMoves}
+use Rattle.step_transition.specs.Moves.{Move, silent_moves}
 use Rattle.state_layout.specs.Loaded.{IsRunOf}
 use Rattle.step_transition.specs.WithinLimits.{WithinLimits}
 use Rattle.step_transition.specs.Threads.{Threads}
@@ -30,7 +30,7 @@ pub record NextFrom (Here : step.Step → Type 0) (s : List ℕ) (st : code.Stat
     (on said : List ℕ) : Type 0 where
   pub exact : (ps : List Placed) {others : List Move} → Here from → Threads s out st.start st.names ps st.end
       → Roomy s out m message st.names st.end → 510 ≤ length channel
-      → Resuming Silent st.start (silentMoves st.names ps) channel message from others → Answered st.start on said r others
+      → Resuming Silent st.start (silent_moves st.names ps) channel message from others → Answered st.start on said r others
 
 abbrev pub NextBetween : (s : List ℕ) → code.State → step.Step → (m out channel message : List ℕ) → Next → (on said : List ℕ) → Type 0
 NextBetween s st from m out channel message r on said = NextFrom (λ v. v.arity ≡ 0) s st from m out channel message r on said

@@ -1,7 +1,7 @@
 // The steps of a state one after the other, for each label ("Steps").
 ghost use Rattle.std.specs.Prelude.{◌≡◌, ◌≤◌, length};
 ghost use Rattle.buffer.specs.Buffer.{SameLength, WrittenFrom};
-ghost use Rattle.step_transition.specs.Behind.{arityBefore, before};
+ghost use Rattle.step_transition.specs.Behind.{arity_before, before};
 ghost use Rattle.step_next.specs.Next.{Nexts};
 ghost use Rattle.state_layout.specs.Layout.{StateFits};
 
@@ -12,7 +12,7 @@ use step_visible::labelled;
 
 // Where the search for silent steps begins is no place of a step: two copies of no repl thread.
 fn arity(label: Label) -> usize
-    ensures { result ≡ arityBefore label }
+    ensures { result ≡ arity_before label }
 {
     match label {
         Label::Output => 0,

@@ -1,6 +1,6 @@
 // Records of threads that surely have no offer of a quest, which are passed by without a traversal ("Steps").
 ghost use Rattle.std.specs.Prelude.{◌≡◌, ◌+◌, ◌≤◌, ◌<◌, length};
-ghost use Rattle.step_offer.specs.Seek.{startingAt};
+ghost use Rattle.step_offer.specs.Seek.{starting_at};
 ghost use Rattle.step_offer.specs.Pass.{Differs, NoOffer, Skips, PassesRecords, Behind};
 ghost use Rattle.index_process.specs.Index.{ShortModel};
 ghost use Rattle.state_layout.specs.Layout.{RecordsFit};
@@ -20,7 +20,7 @@ pub(crate) struct Passed {
 
 // The same quest from another position on.
 pub(crate) fn starting(quest: Quest, from: usize) -> Quest
-    ensures { result ≡ startingAt quest from }
+    ensures { result ≡ starting_at quest from }
 {
     Quest {
         output: quest.output,

@@ -4,7 +4,7 @@ use Rattle.meaning.specs.Messages.Term.{Message}
 use Rattle.meaning.specs.Steps.State.{State}
 use Rattle.state_record.specs.Record.{Placed}
 use Rattle.state_record.specs.declared.state.State as code
-use Rattle.step_transition.specs.Moves.{Move, labelledMoves, silentMoves}
+use Rattle.step_transition.specs.Moves.{Move, labelled_moves, silent_moves}
 use Rattle.step_transition.specs.Step.{step_of}
 use Rattle.step_label.specs.declared.step.Step as step
 use Rattle.step_label.specs.declared.step.Label.{Label}
@@ -14,22 +14,22 @@ use Rattle.index_process.specs.Index.{ShortModel}
 
 -- The steps of a label, x being the message of its channel.
 abbrev pub moves_of : Label → Message → (k : ℕ) → List Placed → List Move
-moves_of Output x k ps = labelledMoves true x k ps
-moves_of Input x k ps = labelledMoves false x k ps
-moves_of Silent x k ps = silentMoves k ps
+moves_of Output x k ps = labelled_moves true x k ps
+moves_of Input x k ps = labelled_moves false x k ps
+moves_of Silent x k ps = silent_moves k ps
 
 -- Where the search for the steps of a label begins: before the first one.
-abbrev pub arityBefore : Label → ℕ
-arityBefore Output = 0
-arityBefore Input = 0
-arityBefore Silent = 2
+abbrev pub arity_before : Label → ℕ
+arity_before Output = 0
+arity_before Input = 0
+arity_before Silent = 2
 
-abbrev pub nobodyAt : ℕ → Actor
-nobodyAt start = record { at = start; mark = 0; next = 0 }
+abbrev pub nobody_at : ℕ → Actor
+nobody_at start = record { at = start; mark = 0; next = 0 }
 
 abbrev pub before : Label → (start : ℕ) → step.Step
 before l start =
-    record { label = l; arity = arityBefore l; copy = 0; sender = nobodyAt start; taker = nobodyAt start; size = 0 }
+    record { label = l; arity = arity_before l; copy = 0; sender = nobody_at start; taker = nobody_at start; size = 0 }
 
 -- The moves that come behind a step: all of them, or those after its own.
 pub data Behind (l : Label) (start : ℕ) (ws : List Move) : step.Step → List Move → Type 0 where

@@ -8,7 +8,7 @@ use Rattle.state_task.specs.declared.task.Quest.{Quest}
 use Rattle.state_task.specs.declared.task.CopyAt.{CopyAt}
 use Rattle.step_located.specs.Located.{LocatedOffer}
 use Rattle.step_located.specs.CopyStep.{Pair, CopyStep}
-use Rattle.step_located.specs.Sought.{wanted, offersExcept, Opened}
+use Rattle.step_located.specs.Sought.{wanted, offers_except, Opened}
 use Rattle.step_transition.specs.Focus.{Focus, filter}
 use Rattle.step_transition.specs.Threads.{Judged}
 use Rattle.state_layout.specs.Loaded.{RecordAt}
@@ -29,14 +29,14 @@ pub record ThreadAt (s out m : List ℕ) (at k to : ℕ) (t : Placed) : Type 0 w
 
 -- The offers of a copy of a repl thread: of its first one, of the same one once more, copies inside it opening at the second name, or of a
 -- second one, which opens there.
-unfoldable pub copyOffers : (excluded : ℕ) → CopyAt → Opened → List LocatedOffer
-copyOffers excluded c w =
+unfoldable pub copy_offers : (excluded : ℕ) → CopyAt → Opened → List LocatedOffer
+copy_offers excluded c w =
     let own = names w.copied w.bound w.opens in
     elim (eqb c.arity 0) [
-      | true ↦ offersExcept excluded w.copied (w.place + 1) w.bound w.opens own
+      | true ↦ offers_except excluded w.copied (w.place + 1) w.bound w.opens own
       | false ↦ elim (eqb c.arity 1) [
-        | true ↦ offersExcept excluded w.copied (w.place + 1) w.bound w.opens c.second
-        | false ↦ offersExcept excluded w.copied (w.place + 1) w.bound c.second (names w.copied w.bound c.second)
+        | true ↦ offers_except excluded w.copied (w.place + 1) w.bound w.opens c.second
+        | false ↦ offers_except excluded w.copied (w.place + 1) w.bound c.second (names w.copied w.bound c.second)
       ]
     ]
 
@@ -54,42 +54,42 @@ abbrev pub inputs : (from excluded : ℕ) → Quest
 inputs from excluded = record { output = false; any = false; from = from; excluded = excluded }
 
 -- What an output is on. An input has a channel too; nothing asks.
-abbrev pub channelOf : LocatedOffer → Message
-channelOf a = of a.prefix
+abbrev pub channel_of : LocatedOffer → Message
+channel_of a = of a.prefix
   where
     of : Prefix → Message
     of (output C M) = worked a.bound C
     of (input C) = worked a.bound C
 
 -- The copies in which a taker is sought: the sender's own, in other threads than the sender's, or a second one.
-abbrev pub takersAt : (arity : ℕ) → Opened → LocatedOffer → CopyAt
-takersAt arity w a = record { place = w.place + 1; arity = arity; second = a.next }
+abbrev pub takers_at : (arity : ℕ) → Opened → LocatedOffer → CopyAt
+takers_at arity w a = record { place = w.place + 1; arity = arity; second = a.next }
 
-abbrev pub leftOut : (arity mark : ℕ) → ℕ
-leftOut arity mark = elim (eqb arity 1) [ true ↦ mark | false ↦ 0 ]
+abbrev pub left_out : (arity mark : ℕ) → ℕ
+left_out arity mark = elim (eqb arity 1) [ true ↦ mark | false ↦ 0 ]
 
-abbrev pub excludedBy : (arity : ℕ) → LocatedOffer → ℕ
-excludedBy arity a = leftOut arity (a.place + 1)
+abbrev pub excluded_by : (arity : ℕ) → LocatedOffer → ℕ
+excluded_by arity a = left_out arity (a.place + 1)
 
 -- The pairs of one sender with those takers that stand at the position y or after it; and of all these senders, the first with its takers
 -- from y on.
-unfoldable pub pairsOf : (arity : ℕ) → Opened → (y : ℕ) → LocatedOffer → List Pair
-pairsOf arity w y a =
+unfoldable pub pairs_of : (arity : ℕ) → Opened → (y : ℕ) → LocatedOffer → List Pair
+pairs_of arity w y a =
     map (λ b. record { sender = a; taker = b })
-    (filter (wanted (inputs y (excludedBy arity a)) (channelOf a)) (copyOffers (excludedBy arity a) (takersAt arity w a) w))
+    (filter (wanted (inputs y (excluded_by arity a)) (channel_of a)) (copy_offers (excluded_by arity a) (takers_at arity w a) w))
 
-unfoldable pub pairsFrom : (arity : ℕ) → Opened → (y : ℕ) → List LocatedOffer → List Pair
-pairsFrom arity w y [] = []
-pairsFrom arity w y (a ∷ others) = pairsOf arity w y a ++ pairsFrom arity w 0 others
+unfoldable pub pairs_from : (arity : ℕ) → Opened → (y : ℕ) → List LocatedOffer → List Pair
+pairs_from arity w y [] = []
+pairs_from arity w y (a ∷ others) = pairs_of arity w y a ++ pairs_from arity w 0 others
 
 -- The senders of a copy from a position on. The message of the label does not matter.
 unfoldable pub senders : Opened → (x : ℕ) → List LocatedOffer
-senders w x = filter (wanted (outputs x) (leaf (public 0))) (copyOffers 0 (record { place = w.place + 1; arity = 0; second = 0 }) w)
+senders w x = filter (wanted (outputs x) (leaf (public 0))) (copy_offers 0 (record { place = w.place + 1; arity = 0; second = 0 }) w)
 
 -- A pair as a silent step of the repl thread.
-abbrev pub copyStepWith : (arity : ℕ) → Opened → Pair → CopyStep
-copyStepWith arity w v =
+abbrev pub copy_step_with : (arity : ℕ) → Opened → Pair → CopyStep
+copy_step_with arity w v =
     record { place = w.place; bound = w.bound; copied = w.copied; opens = w.opens; two = eqb arity 2; pair = v }
 
 abbrev pub moved : Focus → (arity : ℕ) → Opened → List Pair → List Move
-moved p arity w vs = map (λ v. inside p (copyStepWith arity w v)) vs
+moved p arity w vs = map (λ v. inside p (copy_step_with arity w v)) vs

@@ -6,7 +6,7 @@ use Rattle.meaning.specs.Steps.State.{State, worked}
 use Rattle.meaning.specs.Steps.Invariant.{Stored}
 use Rattle.state_record.specs.declared.state.State as code
 use Rattle.step_transition.specs.Moves.{Move, alone, inside, between}
-use Rattle.step_transition.specs.Outcome.{sentBy}
+use Rattle.step_transition.specs.Outcome.{sent_by}
 use Rattle.state_layout.specs.Loaded.{IsRunOf}
 use Rattle.step_transition.specs.WithinLimits.{WithinLimits}
 use Rattle.step_transition.specs.Step.{step_of}
@@ -21,8 +21,8 @@ carried x (alone p a) = of a.prefix
     of : Prefix → Message
     of (output C M) = worked a.bound M
     of (input C) = x
-carried x (inside p w) = sentBy w.pair
-carried x (between p q w) = sentBy w
+carried x (inside p w) = sent_by w.pair
+carried x (between p q w) = sent_by w
 
 -- Room for the traversals of the state that is left, and for the state that is reached behind it.
 pub record Leading (s : List ℕ) (st : code.State) (S : State) (m out : List ℕ) : Type 0 where

@@ -2,12 +2,12 @@
 use Rattle.std.specs.Prelude.{◌≡◌, true, false, List, [], ◌∷◌, ℕ, ◌+◌, length}
 use Rattle.meaning.specs.Bytes.Process.{Prefix, output, input}
 use Rattle.meaning.specs.Steps.State.{worked}
-use Rattle.message_bytes.specs.Encoding.{encodeMessage}
+use Rattle.message_bytes.specs.Encoding.{encode_message}
 use Rattle.step_located.specs.Located.{LocatedOffer}
 use Rattle.step_located.specs.CopyStep.{CopyStep}
-use Rattle.step_transition.specs.Focus.{Focus, recordAt}
+use Rattle.step_transition.specs.Focus.{Focus, record_at}
 use Rattle.step_transition.specs.Moves.{Move, alone, inside, between}
-use Rattle.step_transition.specs.Outcome.{sentBy}
+use Rattle.step_transition.specs.Outcome.{sent_by}
 use Rattle.meaning.specs.Bytes.Standing.{Stands}
 use Rattle.step_label.specs.declared.step.Step as code
 use Rattle.step_label.specs.declared.step.Next.{Next}
@@ -17,14 +17,14 @@ use Rattle.step_label.specs.declared.step.Label.TheVariants.{Output, Input, Sile
 
 -- A thread that acts, and none.
 abbrev pub actor : (start : ℕ) → Focus → LocatedOffer → Actor
-actor start p a = record { at = recordAt start p; mark = a.place + 1; next = a.next }
+actor start p a = record { at = record_at start p; mark = a.place + 1; next = a.next }
 
 abbrev pub nobody : Focus → (start : ℕ) → Actor
-nobody p start = record { at = recordAt start p; mark = 0; next = 0 }
+nobody p start = record { at = record_at start p; mark = 0; next = 0 }
 
 -- One copy, or two.
-abbrev pub arityOf : CopyStep → ℕ
-arityOf w = elim w.two [ true ↦ 2 | false ↦ 1 ]
+abbrev pub arity_of : CopyStep → ℕ
+arity_of w = elim w.two [ true ↦ 2 | false ↦ 1 ]
 
 -- The step that a move is, the records of the state standing from start on.
 unfoldable pub step_of : (start : ℕ) → Move → code.Step
@@ -37,7 +37,7 @@ step_of start (alone p a) = of a.prefix
       copy = 0;
       sender = actor start p a;
       taker = nobody p start;
-      size = length (encodeMessage (worked a.bound M));
+      size = length (encode_message (worked a.bound M));
     }
     of (input C) = record {
       label = Input;
@@ -49,11 +49,11 @@ step_of start (alone p a) = of a.prefix
     }
 step_of start (inside p w) = record {
   label = Silent;
-  arity = arityOf w;
+  arity = arity_of w;
   copy = w.place + 1;
   sender = actor start p w.pair.sender;
   taker = actor start p w.pair.taker;
-  size = length (encodeMessage (sentBy w.pair));
+  size = length (encode_message (sent_by w.pair));
 }
 step_of start (between p q w) = record {
   label = Silent;
@@ -61,7 +61,7 @@ step_of start (between p q w) = record {
   copy = 0;
   sender = actor start p w.sender;
   taker = actor start q w.taker;
-  size = length (encodeMessage (sentBy w));
+  size = length (encode_message (sent_by w));
 }
 
 -- The run of the message that is sent, if one is.
@@ -69,10 +69,10 @@ unfoldable pub run_of : Move → List ℕ
 run_of (alone p a) = of a.prefix
   where
     of : Prefix → List ℕ
-    of (output C M) = encodeMessage (worked a.bound M)
+    of (output C M) = encode_message (worked a.bound M)
     of (input C) = []
-run_of (inside p w) = encodeMessage (sentBy w.pair)
-run_of (between p q w) = encodeMessage (sentBy w)
+run_of (inside p w) = encode_message (sent_by w.pair)
+run_of (between p q w) = encode_message (sent_by w)
 
 -- The answer is the first of these moves, whose message stands at the front of a slice; or none.
 abbrev pub Shown : (start : ℕ) → (said : List ℕ) → Next → List Move → Type 0

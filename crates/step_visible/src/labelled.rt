@@ -1,7 +1,7 @@
 // The next output or input on the channel of a label, in a state that stands in the work bytes ("Steps").
 ghost use Rattle.std.specs.Prelude.{◌≡◌, true, false, ◌≤◌, length};
 ghost use Rattle.buffer.specs.Buffer.{WrittenFrom};
-ghost use Rattle.step_visible.specs.Labelled.{labelledFrom, HandsOver, NextVisible, NextLabelled};
+ghost use Rattle.step_visible.specs.Labelled.{labelled_from, HandsOver, NextVisible, NextLabelled};
 ghost use Rattle.state_layout.specs.Layout.{StateFits};
 
 use message_bytes::run;
@@ -13,7 +13,7 @@ use step_offer::{hand, seek};
 
 // Outputs, or inputs, on the channel of the label, at a position or after it.
 fn quest(output: bool, from: usize) -> Quest
-    ensures { result ≡ labelledFrom output from }
+    ensures { result ≡ labelled_from output from }
 {
     Quest {
         output: output,

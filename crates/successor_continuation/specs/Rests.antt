@@ -7,12 +7,12 @@ use Rattle.state_task.specs.declared.task.CopyAt.{CopyAt}
 use Rattle.step_located.specs.Located.{LocatedOffer}
 use Rattle.step_located.specs.CopyStep.{Pair}
 use Rattle.step_located.specs.Sought.{Opened}
-use Rattle.step_transition.specs.Focus.{Focus, recordAt, offersOf, copiesOf}
+use Rattle.step_transition.specs.Focus.{Focus, record_at, offers_of, copies_of}
 use Rattle.step_transition.specs.Moves.{Move, alone}
-use Rattle.step_transition.specs.Outcome.{boundAfter, last_of, outcome}
+use Rattle.step_transition.specs.Outcome.{bound_after, last_of, outcome}
 use Rattle.state_layout.specs.Loaded.{IsRunOf}
 use Rattle.state_head.specs.Count.{count_of}
-use Rattle.step_transition.specs.CopyOffers.{ThreadAt, Later, copyOffers, takersAt, excludedBy, copyStepWith}
+use Rattle.step_transition.specs.CopyOffers.{ThreadAt, Later, copy_offers, takers_at, excluded_by, copy_step_with}
 use Rattle.step_transition.specs.Step.{actor, step_of}
 use Rattle.step_transition.specs.WithinLimits.{WithinLimits}
 use Rattle.step_transition.specs.Moving.{Moving, Leading}
@@ -25,33 +25,33 @@ use Rattle.successor_continuation.specs.declared.names.Rests.{Rests}
 use Rattle.successor_continuation.specs.declared.names.Rests.TheVariants.{At, OverLimit}
 
 -- Where the rest of the taker of a silent step is settled.
-unfoldable pub lastFor : Move → ℕ
-lastFor (alone p a) = 0
-lastFor (Move.inside p w) = last_of w.pair
-lastFor (Move.between p q w) = last_of w
+unfoldable pub last_for : Move → ℕ
+last_for (alone p a) = 0
+last_for (Move.inside p w) = last_of w.pair
+last_for (Move.between p q w) = last_of w
 
 -- The private names of the rests, or that one meets a limit while it is settled.
-abbrev pub restsOf : (large : Bool) → (last next : ℕ) → Rests
-restsOf true last next = OverLimit
-restsOf false last next = At last next
+abbrev pub rests_of : (large : Bool) → (last next : ℕ) → Rests
+rests_of true last next = OverLimit
+rests_of false last next = At last next
 
 -- The rest of one thread alone, and that of a taker after that of the sender.
-abbrev pub onlyOf : Counted → Rests
-onlyOf (counted.Names next) = At 0 next
-onlyOf counted.OverLimit = OverLimit
+abbrev pub only_of : Counted → Rests
+only_of (counted.Names next) = At 0 next
+only_of counted.OverLimit = OverLimit
 
-abbrev pub thenOf : (last : ℕ) → Counted → Rests
-thenOf last (counted.Names next) = At last next
-thenOf last counted.OverLimit = OverLimit
+abbrev pub then_of : (last : ℕ) → Counted → Rests
+then_of last (counted.Names next) = At last next
+then_of last counted.OverLimit = OverLimit
 
 -- The copies in which the taker of a silent step is, if that is in the thread of the sender.
-abbrev pub stepCopies : step.Step → CopyAt
-stepCopies v = record { place = v.copy; arity = v.arity; second = v.sender.next }
+abbrev pub step_copies : step.Step → CopyAt
+step_copies v = record { place = v.copy; arity = v.arity; second = v.sender.next }
 
 -- The private names of its rests.
 pub record Settles (s : List ℕ) (st : code.State) (v : step.Step) (message m out : List ℕ) (r : Rests) : Type 0 where
   pub exact : (S : State) (h : WithinLimits s out st S) (x : Message) (w : Move) → Moving s out st S h v x w message → Leading s st S m out
-      → let o = outcome h.at.placed S.next x w in r ≡ restsOf o.large (lastFor w) o.next
+      → let o = outcome h.at.placed S.next x w in r ≡ rests_of o.large (last_for w) o.next
 
 -- The same for a silent step.
 pub record SettlesSilent (s : List ℕ) (st : code.State) (v : step.Step) (message m out : List ℕ) (r : Rests) : Type 0 where
@@ -60,18 +60,18 @@ pub record SettlesSilent (s : List ℕ) (st : code.State) (v : step.Step) (messa
 -- Whatever offer of a thread of the state acts, copies being opened at k: the private names after what follows it, settled at n.
 pub record CountsActor (s : List ℕ) (st : code.State) (v : Actor) (k n : ℕ) (message m out : List ℕ) (r : Counted) : Type 0 where
   pub exact : (p : Focus) (a : LocatedOffer) (x : Message) (before after : List LocatedOffer)
-      → ThreadAt s out m (recordAt st.start p) k st.end p.thread → IsRunOf message x → n ≤ 28664
-      → offersOf p.thread k ≡ before ++ (a ∷ after) → v ≡ actor st.start p a → r ≡ count_of a.rest (boundAfter x a) n
+      → ThreadAt s out m (record_at st.start p) k st.end p.thread → IsRunOf message x → n ≤ 28664
+      → offers_of p.thread k ≡ before ++ (a ∷ after) → v ≡ actor st.start p a → r ≡ count_of a.rest (bound_after x a) n
 
 -- Whatever takes in a silent step: an offer of another thread, whose copies open after those of the sender; or one in the copies of a
 -- repl thread w of the thread.
 pub record CountsTaker (s : List ℕ) (st : code.State) (v : step.Step) (n : ℕ) (message m out : List ℕ) (r : Counted) : Type 0 where
   pub between : (p q : Focus) (u : Pair) (x : Message) (before after : List LocatedOffer) {k : ℕ}
-      → ThreadAt s out m (recordAt st.start q) k st.end q.thread → IsRunOf message x → k ≤ u.sender.next
-      → u.sender.next ≤ 28664 → n ≤ 28664 → offersOf q.thread u.sender.next ≡ before ++ (u.taker ∷ after)
-      → v ≡ step_of st.start (Move.between p q u) → r ≡ count_of u.taker.rest (boundAfter x u.taker) n
+      → ThreadAt s out m (record_at st.start q) k st.end q.thread → IsRunOf message x → k ≤ u.sender.next
+      → u.sender.next ≤ 28664 → n ≤ 28664 → offers_of q.thread u.sender.next ≡ before ++ (u.taker ∷ after)
+      → v ≡ step_of st.start (Move.between p q u) → r ≡ count_of u.taker.rest (bound_after x u.taker) n
   pub inside : (p : Focus) (arity : ℕ) (w : Opened) (u : Pair) (x : Message) (pre post : List Opened) (before after : List LocatedOffer)
-      → ThreadAt s out m (recordAt st.start p) st.names st.end p.thread → IsRunOf message x
-      → copiesOf p.thread st.names ≡ pre ++ (w ∷ post) → 1 ≤ arity → Later (takersAt arity w u.sender) w → n ≤ 28664
-      → copyOffers (excludedBy arity u.sender) (takersAt arity w u.sender) w ≡ before ++ (u.taker ∷ after)
-      → v ≡ step_of st.start (Move.inside p (copyStepWith arity w u)) → r ≡ count_of u.taker.rest (boundAfter x u.taker) n
+      → ThreadAt s out m (record_at st.start p) st.names st.end p.thread → IsRunOf message x
+      → copies_of p.thread st.names ≡ pre ++ (w ∷ post) → 1 ≤ arity → Later (takers_at arity w u.sender) w → n ≤ 28664
+      → copy_offers (excluded_by arity u.sender) (takers_at arity w u.sender) w ≡ before ++ (u.taker ∷ after)
+      → v ≡ step_of st.start (Move.inside p (copy_step_with arity w u)) → r ≡ count_of u.taker.rest (bound_after x u.taker) n

@@ -1,7 +1,7 @@
 // The private names that the rests of a step take ("Steps").
 ghost use Rattle.std.specs.Prelude.{◌≡◌, ◌≤◌, length};
 ghost use Rattle.buffer.specs.Buffer.{WrittenFrom};
-ghost use Rattle.successor_continuation.specs.Rests.{onlyOf, thenOf, stepCopies, CountsActor, CountsTaker, SettlesSilent, Settles};
+ghost use Rattle.successor_continuation.specs.Rests.{only_of, then_of, step_copies, CountsActor, CountsTaker, SettlesSilent, Settles};
 ghost use Rattle.state_layout.specs.Layout.{StateFits};
 
 use crate::counting;
@@ -63,7 +63,7 @@ fn silent_names(
 
 // The rest of one thread alone.
 fn only(counted: Counted) -> Rests
-    ensures { result ≡ onlyOf counted }
+    ensures { result ≡ only_of counted }
 {
     match counted {
         Counted::Names(next) => Rests::At(0, next),
@@ -73,7 +73,7 @@ fn only(counted: Counted) -> Rests
 
 // The rest of the taker, after that of the sender.
 fn then(last: usize, counted: Counted) -> Rests
-    ensures { result ≡ thenOf last counted }
+    ensures { result ≡ then_of last counted }
 {
     match counted {
         Counted::Names(next) => Rests::At(last, next),
@@ -107,7 +107,7 @@ fn after(
 
 // The copies in which the taker of a silent step is, if that is in the thread of the sender.
 pub fn copies(step: Step) -> CopyAt
-    ensures { result ≡ stepCopies step }
+    ensures { result ≡ step_copies step }
 {
     let sender = step.sender;
     CopyAt {

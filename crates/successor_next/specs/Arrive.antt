@@ -9,7 +9,7 @@ use Rattle.state_record.specs.declared.state.State as code
 use Rattle.state_layout.specs.Loaded.{IsRunOf}
 use Rattle.state_start.specs.declared.form.Formed.{Formed}
 use Rattle.step_transition.specs.Moves.{Move}
-use Rattle.step_transition.specs.Outcome.{outcome, arrivalOf}
+use Rattle.step_transition.specs.Outcome.{outcome, arrival_of}
 use Rattle.step_transition.specs.WithinLimits.{WithinLimits}
 use Rattle.step_transition.specs.Step.{step_of, run_of}
 use Rattle.step_transition.specs.Behind.{moves_of}
@@ -42,7 +42,7 @@ pub record Leaving (s out : List ℕ) (st : code.State) (S : State) (h : WithinL
 -- Whatever state stands there, and whatever step of it this is: the state that it leads to.
 pub record Leaves (stepless : Bool) (s taken message : List ℕ) (st : code.State) (v : step.Step) (m out : List ℕ) (r : Formed) (after : List ℕ) : Type 0 where
   pub exact : (S : State) (h : WithinLimits s out st S) (y : Message) (w : Move) → Leaving s out st S h v taken message y w → Leading s st S m out
-      → FormsFor stepless s st.end (arrivalOf S (outcome h.at.placed S.next y w)) r after
+      → FormsFor stepless s st.end (arrival_of S (outcome h.at.placed S.next y w)) r after
 
 -- The same for a step that is no input.
 pub record LeavesBySending (stepless : Bool) (s message : List ℕ) (st : code.State) (v : step.Step) (m out : List ℕ) (r : Formed) (after : List ℕ) : Type 0 where
@@ -52,7 +52,7 @@ pub record LeavesBySending (stepless : Bool) (s message : List ℕ) (st : code.S
 abbrev pub ArrivedAt : (stepless : Bool) (s : List ℕ) (st : code.State) (S : State) (ps : List Placed) (y : Message) → Arrived → (after on said : List ℕ) → List Move → Type 0
 ArrivedAt stepless s st S ps y r after on said [] = r ≡ None
 ArrivedAt stepless s st S ps y r after on said (w ∷ others) =
-    (f : Formed) × (r ≡ By (step_of st.start w) f) × FormsFor stepless s st.end (arrivalOf S (outcome ps S.next y w)) f after × Buffered on said w
+    (f : Formed) × (r ≡ By (step_of st.start w) f) × FormsFor stepless s st.end (arrival_of S (outcome ps S.next y w)) f after × Buffered on said w
 
 pub record Arrives (stepless : Bool) (s channel taken : List ℕ) (st : code.State) (from : step.Step) (m out buffered message : List ℕ) (r : Arrived)
     (after on said : List ℕ) : Type 0 where

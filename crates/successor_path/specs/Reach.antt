@@ -7,16 +7,16 @@ use Rattle.meaning.specs.Bytes.Process.{Process}
 use Rattle.meaning.specs.Bytes.Nesting.{variables}
 use Rattle.meaning.specs.Steps.State.{Bound, ◌▸◌, written, worked, names, settle}
 use Rattle.meaning.specs.Logic.Truth.{any_of}
-use Rattle.meaning.specs.Judging.Limits.{overSettling, overOffers}
+use Rattle.meaning.specs.Judging.Limits.{over_settling, over_offers}
 use Rattle.message_term.specs.Bound.{BoundTo}
-use Rattle.state_record.specs.Place.{ProcessAt, thenAt, elseAt, body_at, rightAt}
-use Rattle.state_head.specs.News.{news, laterNews}
+use Rattle.state_record.specs.Place.{ProcessAt, then_at, else_at, body_at, right_at}
+use Rattle.state_head.specs.News.{news, later_news}
 use Rattle.state_head.specs.Head.{CanSettle}
 use Rattle.state_head.specs.Count.{count_of}
 use Rattle.state_head.specs.declared.count.Counted.{Counted}
 use Rattle.step_located.specs.Located.{LocatedOffer}
 use Rattle.step_located.specs.Sought.{Opened}
-use Rattle.step_transition.specs.Outcome.{boundAfter}
+use Rattle.step_transition.specs.Outcome.{bound_after}
 use Rattle.state_layout.specs.Loaded.{IsRunOf}
 use Rattle.successor_path.specs.declared.reach.Way.{Way}
 
@@ -36,24 +36,24 @@ pub data Down : Process → (at : ℕ) → Bound → (n k : ℕ) → Site → Ty
   made : {P : Process} {at : ℕ} {ρ : Bound} {n k : ℕ} {w : Site} → Down P (at + 1) (ρ ▸ leaf (private n)) (suc n) k w
       → Down (Process.new P) at ρ n k w
   then : {M N : Term} {P Q : Process} {at : ℕ} {ρ : Bound} {n k : ℕ} {w : Site} → equal (written ρ M) (written ρ N) ≡ true
-      → Down P (thenAt at M N) ρ n k w → Down (Process.if M N P Q) at ρ n k w
+      → Down P (then_at at M N) ρ n k w → Down (Process.if M N P Q) at ρ n k w
   else : {M N : Term} {P Q : Process} {at : ℕ} {ρ : Bound} {n k : ℕ} {w : Site} → equal (written ρ M) (written ρ N) ≡ false
-      → Down Q (elseAt at M N P) ρ n k w → Down (Process.if M N P Q) at ρ n k w
+      → Down Q (else_at at M N P) ρ n k w → Down (Process.if M N P Q) at ρ n k w
   body : {M : Term} {P : Process} {at : ℕ} {ρ : Bound} {n k : ℕ} {w : Site} → Down P (body_at at M) (ρ ▸ worked ρ M) n k w
-      → Down (Process.let-in M P) at ρ n k w
+      → Down (Process.let_in M P) at ρ n k w
   leftward : {P Q : Process} {at : ℕ} {ρ : Bound} {n k : ℕ} {w : Site} → Down P (at + 1) ρ n k w → Down (Process.par P Q) at ρ n k w
-  rightward : {P Q : Process} {at : ℕ} {ρ : Bound} {n k : ℕ} {w : Site} → Down Q (rightAt at P) ρ (names P ρ n) k w
+  rightward : {P Q : Process} {at : ℕ} {ρ : Bound} {n k : ℕ} {w : Site} → Down Q (right_at at P) ρ (names P ρ n) k w
       → Down (Process.par P Q) at ρ n k w
   copied : {P : Process} {at : ℕ} {ρ : Bound} {n k : ℕ} {w : Site} → Down P (at + 1) ρ k (names P ρ k) w
       → Down (Process.repl P) at ρ n k w
 
 -- An offer and a repl thread are such processes, settled at n.
-abbrev pub offerSite : LocatedOffer → (n : ℕ) → Site
-offerSite a n =
+abbrev pub offer_site : LocatedOffer → (n : ℕ) → Site
+offer_site a n =
     record { process = Process.act a.prefix a.rest; place = a.place; bound = a.bound; settled = n; opens = a.next }
 
-abbrev pub copySite : Opened → (n : ℕ) → Site
-copySite w n =
+abbrev pub copy_site : Opened → (n : ℕ) → Site
+copy_site w n =
     record { process = Process.repl w.copied; place = w.place; bound = w.bound; settled = n; opens = w.opens }
 
 -- A process at a position, the messages that are bound, and room for whatever the process may bind or work.
@@ -66,13 +66,13 @@ pub record Prepared (s : List ℕ) (at left : ℕ) (m : List ℕ) (end : ℕ) (P
 -- Two bytes hold its private names, and it meets no limit: not while it is settled at n, nor do its threads, copies being opened at k.
 pub record Allowed (P : Process) (ρ : Bound) (n k : ℕ) : Type 0 where
   pub own : n + news P ≤ 32760
-  pub later : k + laterNews P ≤ 32760
-  pub settling : overSettling P ρ n ≡ false
-  pub offering : any_of (λ t. overOffers t k) (settle P ρ n) ≡ false
+  pub later : k + later_news P ≤ 32760
+  pub settling : over_settling P ρ n ≡ false
+  pub offering : any_of (λ t. over_offers t k) (settle P ρ n) ≡ false
 
 -- Whatever process stands there, settled at n, if it meets no limit: the next private name.
 pub record Takes (s : List ℕ) (at left : ℕ) (m : List ℕ) (end n : ℕ) (r : ℕ) : Type 0 where
-  pub exact : (P : Process) (ρ : Bound) → CanSettle s at left m end n P ρ → overSettling P ρ n ≡ false → r ≡ names P ρ n
+  pub exact : (P : Process) (ρ : Bound) → CanSettle s at left m end n P ρ → over_settling P ρ n ≡ false → r ≡ names P ρ n
 
 -- A process stands where a way has come to, from which settling comes to a site. Its messages are bound, and it meets no limit.
 pub record Leads (s m : List ℕ) (r : Way) (w : Site) : Type 0 where
@@ -123,4 +123,4 @@ pub record Goes (s : List ℕ) (f : Way) (mark : ℕ) (r : Bool) : Type 0 where
 -- Whatever output or input stands there, the answer is that for what follows it, under the message of the label too if it is an input.
 pub record CountsRest (s argument : List ℕ) (at left : ℕ) (m : List ℕ) (end n : ℕ) (r : Counted) : Type 0 where
   pub exact : (a : LocatedOffer) (x : Message) → Prepared s at left m end (Process.act a.prefix a.rest) a.bound → IsRunOf argument x
-      → n + news a.rest ≤ 32760 → r ≡ count_of a.rest (boundAfter x a) n
+      → n + news a.rest ≤ 32760 → r ≡ count_of a.rest (bound_after x a) n

@@ -1,7 +1,7 @@
 -- The threads before one and those behind it, as two blocks ("Steps").
 use Rattle.std.specs.Prelude.{◌≡◌, List, ℕ, ◌+◌, ◌≤◌, length}
 use Rattle.state_record.specs.Record.{Placed}
-use Rattle.step_located.specs.Rebuilt.{nodesOf}
+use Rattle.step_located.specs.Rebuilt.{nodes_of}
 use Rattle.step_transition.specs.Threads.{Threads}
 use Rattle.successor_rebuild.specs.Block.{BlockOf}
 use Rattle.successor_rebuild.specs.declared.block.Block.{Block}
@@ -15,5 +15,5 @@ pub record Rest (end threads nodes : ℕ) (other r : Block) : Type 0 where
 -- Whatever threads have their records before a record and behind it, the blocks have them.
 pub record Halve (out : List ℕ) (start at next end threads nodes : ℕ) (r : Halves) : Type 0 where
   pub exact : (s : List ℕ) (before behind : List Placed) {k : ℕ} → Threads s out start k before at → Threads s out next k behind end
-      → threads ≡ length before + length behind → nodes ≡ nodesOf before + nodesOf behind → nodes ≤ 1024
+      → threads ≡ length before + length behind → nodes ≡ nodes_of before + nodes_of behind → nodes ≤ 1024
       → BlockOf out start before r.before × BlockOf out next behind r.behind

@@ -3,7 +3,7 @@
 ghost use Rattle.std.specs.Prelude.{◌≡◌, ◌+◌, ◌-◌, ◌≤◌, length};
 ghost use Rattle.buffer.specs.Buffer.{WrittenFrom};
 ghost use Rattle.state_progress.specs.Progress.{Extends};
-ghost use Rattle.successor_prefix.specs.Alone.{ContinuesThread, Replaces, sentNodes, Others, Around, LeadsUntil, LeadsAlone};
+ghost use Rattle.successor_prefix.specs.Alone.{ContinuesThread, Replaces, sent_nodes, Others, Around, LeadsUntil, LeadsAlone};
 ghost use Rattle.index_process.specs.Index.{ShortModel};
 ghost use Rattle.state_layout.specs.Layout.{RecordsFit, StateFits};
 
@@ -77,7 +77,7 @@ fn replace(
 
 // The nodes of a message of so many bytes, if it is sent.
 fn sent_nodes(sends: bool, size: usize) -> usize
-    ensures { result ≡ sentNodes sends size }
+    ensures { result ≡ sent_nodes sends size }
 {
     if sends { size / 2 } else { 0 }
 }

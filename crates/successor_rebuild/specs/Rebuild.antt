@@ -1,7 +1,7 @@
 -- The threads of a state written into the next one: those that act as their tasks leave them, the others as they are ("Steps").
 use Rattle.std.specs.Prelude.{◌≡◌, true, false, List, [], ◌∷◌, ℕ, ◌+◌, ◌-◌, ◌≤◌, eqb, length}
 use Rattle.meaning.specs.Messages.Term.{Message}
-use Rattle.state_record.specs.Record.{Placed, processOf, boundOf, encodeRecord}
+use Rattle.state_record.specs.Record.{Placed, process_of, bound_of, encode_record}
 use Rattle.state_progress.specs.TraversalResult.{Accumulated, TraversalResult, going, further, push}
 use Rattle.state_head.specs.Traversal.{go}
 use Rattle.state_progress.specs.Represented.{Represents, RepresentsResult}
@@ -13,18 +13,18 @@ use Rattle.state_layout.specs.Loaded.{IsRunOf, RecordAt, NamesSmall}
 use Rattle.index_process.specs.Index.{ShortModel}
 
 -- The traversal of a thread for a task.
-abbrev pub goOver : Placed → Task → Message → Accumulated → TraversalResult
-goOver t T x g = go (processOf t.thread) T x t.place (boundOf t.thread) g
+abbrev pub go_over : Placed → Task → Message → Accumulated → TraversalResult
+go_over t T x g = go (process_of t.thread) T x t.place (bound_of t.thread) g
 
 -- One thread, whose record stands at a position: the task T is done at the position i, the task U at the position j.
 unfoldable pub renewed : Message → (i : ℕ) → Task → (j : ℕ) → Task → (at : ℕ) → Placed → Accumulated → TraversalResult
 renewed x i T j U at t g =
-    elim (eqb at i) [ true ↦ goOver t T x g | false ↦ elim (eqb at j) [ true ↦ goOver t U x g | false ↦ push t.place t.thread g ] ]
+    elim (eqb at i) [ true ↦ go_over t T x g | false ↦ elim (eqb at j) [ true ↦ go_over t U x g | false ↦ push t.place t.thread g ] ]
 
 -- All threads, whose records stand from a position on.
 unfoldable pub rebuilt : Message → (i : ℕ) → Task → (j : ℕ) → Task → (at : ℕ) → List Placed → Accumulated → TraversalResult
 rebuilt x i T j U at [] g = going g
-rebuilt x i T j U at (t ∷ ts) g = further (renewed x i T j U at t g) (rebuilt x i T j U (at + length (encodeRecord t)) ts)
+rebuilt x i T j U at (t ∷ ts) g = further (renewed x i T j U at t g) (rebuilt x i T j U (at + length (encode_record t)) ts)
 
 -- What both tasks ask for: a label, a model and bytes to work in, and private names that two bytes hold.
 pub record Prepared (s argument m : List ℕ) (T U : Task) (x : Message) (n : ℕ) : Type 0 where
@@ -32,9 +32,9 @@ pub record Prepared (s argument m : List ℕ) (T U : Task) (x : Message) (n : �
   pub short : ShortModel s
   pub room : 10750 ≤ length m
   pub names : NamesSmall T n
-  pub other-names : NamesSmall U n
+  pub other_names : NamesSmall U n
   pub meant : Meant s T
-  pub other-meant : Meant s U
+  pub other_meant : Meant s U
 
 -- A thread whose record stands at a position acts: at the position i, or else at the position j.
 abbrev pub Acts : (i j at : ℕ) → Type 0
@@ -57,4 +57,4 @@ pub record Rebuilds (s argument : List ℕ) (at to : ℕ) (m : List ℕ) (i : �
 pub record Resumes (s argument : List ℕ) (at to : ℕ) (m : List ℕ) (i : ℕ) (T : Task) (j : ℕ) (U : Task) (out : List ℕ) (now r : Progress)
     (after : List ℕ) : Type 0 where
   pub stopped : now.going ≡ false → (r ≡ now) × (after ≡ out)
-  pub locatedOffers : (4 ≤ to - at → Acts i j at) → Rebuilds s argument at to m i T j U out now r after
+  pub located_offers : (4 ≤ to - at → Acts i j at) → Rebuilds s argument at to m i T j U out now r after

@@ -11,8 +11,8 @@ use Rattle.successor_rebuild.specs.declared.tasks.Tasks.{Tasks}
 abbrev pub plan : (sender taker second rest last : ℕ) → Plan
 plan sender taker second rest last = record { sender = sender; taker = taker; second = second; rest = rest; last = last }
 
-abbrev pub silentTasks : step.Step → (last k : ℕ) → Tasks
-silentTasks v last k =
+abbrev pub silent_tasks : step.Step → (last k : ℕ) → Tasks
+silent_tasks v last k =
     elim (eqb v.arity 0) [
       | true ↦ record {
         first = v.sender.at;
@@ -29,23 +29,23 @@ silentTasks v last k =
       }
     ]
 
-abbrev pub labelTasks : Label → step.Step → (last k : ℕ) → Tasks
-labelTasks Output v last k = record {
+abbrev pub label_tasks : Label → step.Step → (last k : ℕ) → Tasks
+label_tasks Output v last k = record {
   first = v.sender.at;
   task = Build (plan v.sender.mark 0 0 v.sender.next 0) k;
   second = v.sender.at;
   other = Build (plan 0 0 0 0 0) k;
 }
-labelTasks Input v last k = record {
+label_tasks Input v last k = record {
   first = v.taker.at;
   task = Build (plan 0 v.taker.mark 0 0 v.taker.next) k;
   second = v.taker.at;
   other = Build (plan 0 0 0 0 0) k;
 }
-labelTasks Silent v last k = silentTasks v last k
+label_tasks Silent v last k = silent_tasks v last k
 
-abbrev pub tasksOf : step.Step → (last k : ℕ) → Tasks
-tasksOf v last k = labelTasks v.label v last k
+abbrev pub tasks_of : step.Step → (last k : ℕ) → Tasks
+tasks_of v last k = label_tasks v.label v last k
 
 -- The message of an output becomes an alias.
 abbrev pub sends : Label → Bool

@@ -1,6 +1,6 @@
 // What a step does to the threads that act ("Steps").
 ghost use Rattle.std.specs.Prelude.{◌≡◌};
-ghost use Rattle.successor_rebuild.specs.Tasks.{plan, tasksOf, silentTasks, sends};
+ghost use Rattle.successor_rebuild.specs.Tasks.{plan, tasks_of, silent_tasks, sends};
 
 use state_task::task::{Plan, Task};
 use step_label::step::{Label, Step};
@@ -55,7 +55,7 @@ fn taking(mark: usize, rest: usize) -> Plan
 
 // The tasks of a silent step: of two threads, or of the copies of one.
 fn assign_silent(step: Step, last: usize, names: usize) -> Tasks
-    ensures { result ≡ silentTasks step last names }
+    ensures { result ≡ silent_tasks step last names }
 {
     let sender = step.sender;
     let taker = step.taker;
@@ -85,7 +85,7 @@ fn assign_silent(step: Step, last: usize, names: usize) -> Tasks
 
 // The tasks of a step.
 pub fn assign(step: Step, last: usize, names: usize) -> Tasks
-    ensures { result ≡ tasksOf step last names }
+    ensures { result ≡ tasks_of step last names }
 {
     let sender = step.sender;
     let taker = step.taker;

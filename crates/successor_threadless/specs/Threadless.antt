@@ -8,8 +8,8 @@ use Rattle.state_progress.specs.TraversalResult.{Accumulated, TraversalResult, f
 use Rattle.state_progress.specs.Represented.{Represents, RepresentsResult}
 use Rattle.state_record.specs.declared.state.State as code
 use Rattle.state_progress.specs.declared.progress.Progress.{Progress}
-use Rattle.state_layout.specs.Layout.{StateAt, overArrival}
-use Rattle.state_layout.specs.Loaded.{nothingYet, IsRunOf}
+use Rattle.state_layout.specs.Layout.{StateAt, over_arrival}
+use Rattle.state_layout.specs.Loaded.{nothing_yet, IsRunOf}
 use Rattle.state_start.specs.declared.form.Formed.{Formed}
 use Rattle.state_start.specs.declared.form.Formed.TheVariants.{At}
 use Rattle.state_task.specs.declared.task.Task.TheVariants.{Settle}
@@ -17,10 +17,10 @@ use Rattle.state_head.specs.Traversal.{go}
 use Rattle.step_located.specs.Located.{LocatedOffer}
 use Rattle.step_located.specs.CopyStep.{Pair}
 use Rattle.step_located.specs.Sought.{Opened}
-use Rattle.step_transition.specs.Focus.{Focus, recordAt, offersOf, copiesOf}
+use Rattle.step_transition.specs.Focus.{Focus, record_at, offers_of, copies_of}
 use Rattle.step_transition.specs.Moves.{Move, alone, inside, between}
-use Rattle.step_transition.specs.Outcome.{boundAfter, outcome, arrivalOf}
-use Rattle.step_transition.specs.CopyOffers.{ThreadAt, Later, copyOffers, takersAt, excludedBy, copyStepWith}
+use Rattle.step_transition.specs.Outcome.{bound_after, outcome, arrival_of}
+use Rattle.step_transition.specs.CopyOffers.{ThreadAt, Later, copy_offers, takers_at, excluded_by, copy_step_with}
 use Rattle.step_transition.specs.Step.{actor, step_of}
 use Rattle.step_transition.specs.WithinLimits.{WithinLimits}
 use Rattle.step_transition.specs.Moving.{carried, Leading, Moving}
@@ -30,27 +30,27 @@ use Rattle.step_label.specs.declared.step.Label.TheVariants.{Silent}
 use Rattle.successor_threadless.specs.declared.excess.Excess.{Excess}
 
 -- The same state without its threads.
-abbrev pub threadlessOf : Arrival → Arrival
-threadlessOf A = arrived A.large (record { threads = []; aliases = A.state.aliases; next = A.state.next })
+abbrev pub threadless_of : Arrival → Arrival
+threadless_of A = arrived A.large (record { threads = []; aliases = A.state.aliases; next = A.state.next })
 
 -- For those that look at the threads of a state, or do not, only the state itself will do, or also this one if it is within its limits.
 pub data StandsFor : (stepless : Bool) → Arrival → Arrival → Type 0 where
   itself : {stepless : Bool} {A : Arrival} → StandsFor stepless A A
-  threadless : {A : Arrival} → overArrival A ≡ false → StandsFor true A (threadlessOf A)
+  threadless : {A : Arrival} → over_arrival A ≡ false → StandsFor true A (threadless_of A)
 
 -- What follows the process of an offer, settled, y being the message that goes.
-abbrev pub restFrom : Message → LocatedOffer → Accumulated → TraversalResult
-restFrom y a g = go a.rest Settle y (rest_at a.place a.prefix) (boundAfter y a) g
+abbrev pub rest_from : Message → LocatedOffer → Accumulated → TraversalResult
+rest_from y a g = go a.rest Settle y (rest_at a.place a.prefix) (bound_after y a) g
 
 -- What follows a sender and a taker, the one after the other.
-abbrev pub bothFrom : Message → Pair → TraversalResult
-bothFrom y w = further (restFrom y w.sender (nothingYet w.taker.next)) (restFrom y w.taker)
+abbrev pub both_from : Message → Pair → TraversalResult
+both_from y w = further (rest_from y w.sender (nothing_yet w.taker.next)) (rest_from y w.taker)
 
 -- What follows the processes that act in a step.
-unfoldable pub settledRests : Message → Move → TraversalResult
-settledRests y (alone p a) = restFrom y a (nothingYet a.next)
-settledRests y (inside p w) = bothFrom y w.pair
-settledRests y (between p q w) = bothFrom y w
+unfoldable pub settled_rests : Message → Move → TraversalResult
+settled_rests y (alone p a) = rest_from y a (nothing_yet a.next)
+settled_rests y (inside p w) = both_from y w.pair
+settled_rests y (between p q w) = both_from y w
 
 -- Whatever offer of a thread of the state acts, copies being opened at k: what follows it is settled. A traversal that goes no further is left as
 -- it is.
@@ -58,22 +58,22 @@ pub record FollowsOffer (s : List ℕ) (st : code.State) (v : Actor) (k : ℕ) (
   where
     pub stopped : now.going ≡ false → (r ≡ now) × (after ≡ out)
     pub exact : (p : Focus) (a : LocatedOffer) (y : Message) (g : Accumulated) (before behind : List LocatedOffer) {j : ℕ}
-        → ThreadAt s out m (recordAt st.start p) j st.end p.thread → IsRunOf message y → j ≤ k → k ≤ 28664 → g.names ≤ 28664
-        → offersOf p.thread k ≡ before ++ (a ∷ behind) → v ≡ actor st.start p a → Represents s out now g → RepresentsResult s after r (restFrom y a g)
+        → ThreadAt s out m (record_at st.start p) j st.end p.thread → IsRunOf message y → j ≤ k → k ≤ 28664 → g.names ≤ 28664
+        → offers_of p.thread k ≡ before ++ (a ∷ behind) → v ≡ actor st.start p a → Represents s out now g → RepresentsResult s after r (rest_from y a g)
 
 -- The same for a taker in the copies of a repl thread w of the thread of the sender.
 pub record FollowsIn (s : List ℕ) (st : code.State) (v : step.Step) (message m out : List ℕ) (now r : Progress) (after : List ℕ) : Type 0 where
   pub stopped : now.going ≡ false → (r ≡ now) × (after ≡ out)
   pub exact : (p : Focus) (arity : ℕ) (w : Opened) (u : Pair) (y : Message) (g : Accumulated) (pre post : List Opened) (before behind : List LocatedOffer)
-      → ThreadAt s out m (recordAt st.start p) st.names st.end p.thread → IsRunOf message y
-      → copiesOf p.thread st.names ≡ pre ++ (w ∷ post) → 1 ≤ arity → Later (takersAt arity w u.sender) w → g.names ≤ 28664
-      → copyOffers (excludedBy arity u.sender) (takersAt arity w u.sender) w ≡ before ++ (u.taker ∷ behind)
-      → v ≡ step_of st.start (inside p (copyStepWith arity w u)) → Represents s out now g → RepresentsResult s after r (restFrom y u.taker g)
+      → ThreadAt s out m (record_at st.start p) st.names st.end p.thread → IsRunOf message y
+      → copies_of p.thread st.names ≡ pre ++ (w ∷ post) → 1 ≤ arity → Later (takers_at arity w u.sender) w → g.names ≤ 28664
+      → copy_offers (excluded_by arity u.sender) (takers_at arity w u.sender) w ≡ before ++ (u.taker ∷ behind)
+      → v ≡ step_of st.start (inside p (copy_step_with arity w u)) → Represents s out now g → RepresentsResult s after r (rest_from y u.taker g)
 
 -- Whatever step of whatever state this is: what follows the processes that act is settled.
 pub record Settles (s : List ℕ) (st : code.State) (v : step.Step) (message m out : List ℕ) (r : Progress) (after : List ℕ) : Type 0 where
   pub exact : (S : State) (h : WithinLimits s out st S) (x : Message) (w : Move) → Moving s out st S h v x w message → Leading s st S m out
-      → RepresentsResult s after r (settledRests (carried x w) w)
+      → RepresentsResult s after r (settled_rests (carried x w) w)
 
 -- The same for a silent step.
 pub record SettlesBoth (s : List ℕ) (st : code.State) (v : step.Step) (message m out : List ℕ) (r : Progress) (after : List ℕ) : Type 0 where
@@ -97,5 +97,5 @@ pub record Fits (st : code.State) (e : Excess) (r : Progress) (size : ℕ) (b : 
 pub record FormsThreadless (s : List ℕ) (st : code.State) (v : step.Step) (message m out : List ℕ) (r : Formed) (after : List ℕ) : Type 0 where
   pub exact : (S : State) (h : WithinLimits s out st S) (x : Message) (w : Move) → Moving s out st S h v x w message → Leading s st S m out
       → (threadless : code.State) → r ≡ At threadless
-      → let A = arrivalOf S (outcome h.at.placed S.next x w) in
-      (overArrival A ≡ false) × StateAt s after threadless (threadlessOf A).state × (threadless.aliases ≡ st.end)
+      → let A = arrival_of S (outcome h.at.placed S.next x w) in
+      (over_arrival A ≡ false) × StateAt s after threadless (threadless_of A).state × (threadless.aliases ≡ st.end)

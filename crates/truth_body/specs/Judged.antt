@@ -5,8 +5,8 @@ use Rattle.meaning.specs.Judging.{Judgement}
 use Rattle.truth_body.specs.declared.judged.Judged.{Judged}
 use Rattle.truth_body.specs.declared.judged.Judged.TheVariants.{Done, Spent}
 
-unfoldable pub judgedOf : (left : ℕ) → Judgement → Judged
-judgedOf left j = elim (ltb left j.count) [ true ↦ Spent | false ↦ Done j.truth j.limited (left - j.count) ]
+unfoldable pub judged_of : (left : ℕ) → Judgement → Judged
+judged_of left j = elim (ltb left j.count) [ true ↦ Spent | false ↦ Done j.truth j.limited (left - j.count) ]
 
 -- In any case a visit is taken off the budget, unless it is spent.
 pub record Less (left : ℕ) (r : Judged) : Type 0 where

@@ -3,7 +3,7 @@ use Rattle.std.specs.Prelude.{◌≡◌, true, false, List, ℕ, ◌+◌, ◌*�
 use Rattle.meaning.specs.Judging.Visits.{Arrival}
 use Rattle.buffer.specs.Buffer.{Within}
 use Rattle.state_record.specs.declared.state.State as code
-use Rattle.state_layout.specs.Layout.{overArrival}
+use Rattle.state_layout.specs.Layout.{over_arrival}
 use Rattle.state_start.specs.declared.form.Formed.{Formed}
 use Rattle.state_start.specs.declared.form.Formed.TheVariants.{At, OverLimit}
 use Rattle.step_transition.specs.WithinLimits.{WithinLimits}
@@ -22,7 +22,7 @@ pub record JudgingRoom (s m out : List ℕ) : Type 0 where
 -- A state within its limits, as it was reached, with so many step formulas still to come. It stands where at most 2,976 bytes were taken by
 -- each state on the way, and has at most one alias for each step.
 pub record Here (s out : List ℕ) (st : code.State) (A : Arrival) (steps : ℕ) : Type 0 where
-  pub free : overArrival A ≡ false
+  pub free : over_arrival A ≡ false
   pub within : WithinLimits s out st A.state
   pub early : st.end + 2976 * steps ≤ 50592
   pub few : length A.state.aliases + steps ≤ 16
@@ -30,7 +30,7 @@ pub record Here (s out : List ℕ) (st : code.State) (A : Arrival) (steps : ℕ)
 -- The same of what was formed: it may be over a limit.
 abbrev pub Reached : (s out : List ℕ) → Formed → Arrival → (steps : ℕ) → Type 0
 Reached s out (At st) A steps = Here s out st A steps
-Reached s out OverLimit A steps = overArrival A ≡ true
+Reached s out OverLimit A steps = over_arrival A ≡ true
 
 -- No byte of the state or before it is changed, and none at all where there is no state.
 abbrev pub Unchanged : Formed → (out after : List ℕ) → Type 0

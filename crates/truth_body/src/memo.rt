@@ -2,7 +2,7 @@
 // step leads that adds no alias, so it is judged at the first such state within its limits, and counted for the others.
 ghost use Rattle.std.specs.Prelude.{◌≡◌};
 ghost use Rattle.truth_body.specs.Judged.{Less};
-ghost use Rattle.truth_body.specs.Memo.{alikeIf, beginning, first_of, memoised, Applies, Charges};
+ghost use Rattle.truth_body.specs.Memo.{alike_if, beginning, first_of, memoised, Applies, Charges};
 
 use crate::judged::Judged;
 use state_start::form::Formed;
@@ -30,7 +30,7 @@ pub fn begin(label: Label, stepless: bool) -> Memo
 
 // A body without steps looks at nothing but aliases.
 fn alike(stepless: bool) -> Memo
-    ensures { result ≡ alikeIf stepless }
+    ensures { result ≡ alike_if stepless }
 {
     if stepless {
         return Memo::Alike;

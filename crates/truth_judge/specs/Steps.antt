@@ -2,11 +2,11 @@
 use Rattle.std.specs.Prelude.{◌≡◌, Bool, true, false, ◌||◌, List, map, ℕ, ◌+◌, ◌-◌, ◌<◌, ◌≤◌, length}
 use Rattle.meaning.specs.Messages.Term.{Message}
 use Rattle.meaning.specs.Bytes.Formula.{Label, Formula}
-use Rattle.meaning.specs.Bytes.Nesting.{stepDepth}
-use Rattle.meaning.specs.Bytes.Scope.{bindsLabel}
+use Rattle.meaning.specs.Bytes.Nesting.{step_depth}
+use Rattle.meaning.specs.Bytes.Scope.{binds_label}
 use Rattle.meaning.specs.Steps.State.{State}
-use Rattle.meaning.specs.Judging.{Judgement, someOf, judge}
-use Rattle.meaning.specs.Judging.Limits.{overLabel}
+use Rattle.meaning.specs.Judging.{Judgement, some_of, judge}
+use Rattle.meaning.specs.Judging.Limits.{over_label}
 use Rattle.meaning.specs.Judging.Visits.{Arrival}
 use Rattle.buffer.specs.Buffer.{Within}
 use Rattle.state_record.specs.Record.{Placed}
@@ -14,16 +14,16 @@ use Rattle.state_record.specs.declared.state.State as code
 use Rattle.state_layout.specs.Loaded.{IsRunOf}
 use Rattle.state_start.specs.declared.form.Formed.{Formed}
 use Rattle.step_transition.specs.Moves.{Move}
-use Rattle.step_transition.specs.Outcome.{outcome, arrivalOf}
+use Rattle.step_transition.specs.Outcome.{outcome, arrival_of}
 use Rattle.step_transition.specs.Behind.{moves_of}
 use Rattle.step_label.specs.declared.step.Step as step
 use Rattle.step_label.specs.declared.step.Label as step_label
 use Rattle.step_label.specs.declared.step.Label.TheVariants.{Input}
 use Rattle.step_between.specs.Buffered.{Resuming}
 use Rattle.truth_label.specs.Place.{kind_of, FormulaAt, LabelAt}
-use Rattle.truth_label.specs.Head.{stepLabel, channelOf, taken_of}
+use Rattle.truth_label.specs.Head.{label_of_step, channel_of, taken_of}
 use Rattle.truth_label.specs.declared.head.Head as head
-use Rattle.truth_body.specs.Judged.{judgedOf}
+use Rattle.truth_body.specs.Judged.{judged_of}
 use Rattle.truth_body.specs.Reached.{JudgingRoom, Here, Reached, Unchanged}
 use Rattle.truth_body.specs.Memo.{MemoAt, MemoHolds, memoised}
 use Rattle.truth_judge.specs.Visit.{Comes}
@@ -38,7 +38,7 @@ use Rattle.truth_judge.specs.declared.turn.Turn.TheVariants.{On, End}
 pub record Stepped (s f : List ℕ) (kind at depth : ℕ) (st : code.State) (m out : List ℕ) (left : ℕ) (r : Judged) (after : List ℕ) : Type 0 where
   pub exact : (a : Label) (F : Formula) (A : Arrival) {steps body next : ℕ} → kind ≡ kind_of a
       → LabelAt f at (length A.state.aliases) a body
-      → FormulaAt f body depth steps (bindsLabel a + length A.state.aliases) F next → Here s out st A (steps + 1) → JudgingRoom s m out
+      → FormulaAt f body depth steps (binds_label a + length A.state.aliases) F next → Here s out st A (steps + 1) → JudgingRoom s m out
       → Comes st out left (judge (Formula.step a F) A) r after
 
 -- What those who judge the body of a step formula are given: the state, the body, and the worked messages of the label.
@@ -48,41 +48,41 @@ pub record Asked (s f : List ℕ) (body depth : ℕ) (st : code.State) (l : step
   pub arrival : Arrival
   pub steps : ℕ
   pub next : ℕ
-  pub same : l ≡ stepLabel label
-  pub stands : FormulaAt f body depth steps (bindsLabel label + length arrival.state.aliases) formula next
+  pub same : l ≡ label_of_step label
+  pub stands : FormulaAt f body depth steps (binds_label label + length arrival.state.aliases) formula next
   pub here : Here s out st arrival (steps + 1)
   pub room : JudgingRoom s m out
-  pub small : overLabel arrival.state.aliases label ≡ false
-  pub channelled : IsRunOf channel (channelOf arrival.state.aliases label)
+  pub small : over_label arrival.state.aliases label ≡ false
+  pub channelled : IsRunOf channel (channel_of arrival.state.aliases label)
   pub taking : l ≡ Input → IsRunOf taken (taken_of arrival.state.aliases label)
 
 -- What the body comes to at the states that moves lead to.
 abbrev pub judgements : Formula → State → List Placed → Message → List Move → List Judgement
-judgements F S ps y ws = map (λ w. judge F (arrivalOf S (outcome ps S.next y w))) ws
+judgements F S ps y ws = map (λ w. judge F (arrival_of S (outcome ps S.next y w))) ws
 
 module _ {s f : List ℕ} {body depth : ℕ} {st : code.State} {l : step_label.Label} {channel taken m out : List ℕ}
     (q : Asked s f body depth st l channel taken m out) where
   -- The moves of the label, and what the body comes to at some of them.
-  abbrev pub movesAt : List Move
-  movesAt =
+  abbrev pub moves_at : List Move
+  moves_at =
       let S = q.arrival.state in
-      moves_of l (channelOf S.aliases q.label) S.next q.here.within.at.placed
+      moves_of l (channel_of S.aliases q.label) S.next q.here.within.at.placed
 
-  abbrev pub judgementsAt : List Move → List Judgement
-  judgementsAt ws =
+  abbrev pub judgements_at : List Move → List Judgement
+  judgements_at ws =
       let S = q.arrival.state in
       judgements q.formula S q.here.within.at.placed (taken_of S.aliases q.label) ws
 
   -- What is known of the body.
-  abbrev pub memoHoldsAt : Memo → Type 0
-  memoHoldsAt memo = MemoHolds memo q.formula q.label q.arrival.state.aliases
+  abbrev pub memo_holds_at : Memo → Type 0
+  memo_holds_at memo = MemoHolds memo q.formula q.label q.arrival.state.aliases
 
 -- What is still to come, with what has come so far.
-abbrev pub someWith : Sum → Judgement → Judgement
-someWith sum k = record { truth = sum.truth || k.truth; count = k.count; limited = sum.limited || k.limited }
+abbrev pub some_with : Sum → Judgement → Judgement
+some_with sum k = record { truth = sum.truth || k.truth; count = k.count; limited = sum.limited || k.limited }
 
-unfoldable pub toCome : Sum → List Judgement → Judged
-toCome sum js = judgedOf (sum.left + 1) (someWith sum (someOf js))
+unfoldable pub to_come : Sum → List Judgement → Judged
+to_come sum js = judged_of (sum.left + 1) (some_with sum (some_of js))
 
 -- A further step, behind which there are moves, with what it sends and on what at the fronts of two slices, what has come so far, and what is
 -- known of the body.
@@ -91,7 +91,7 @@ pub record FurtherStep (l : step_label.Label) (start : ℕ) (ws : List Move) (ju
   pub label : v.label ≡ l
   pub others : List Move
   pub resuming : Resuming l start ws buffered message v others
-  pub same : toCome sum (judged others) ≡ total
+  pub same : to_come sum (judged others) ≡ total
   pub holding : holds memo
 
 -- One turn: the next step is taken, and the body judged where it leads.
@@ -102,17 +102,17 @@ pub record TurnTo (l : step_label.Label) (start : ℕ) (ws : List Move) (judged 
 
 pub record Turns (stepless : Bool) (memo : Memo) (s f : List ℕ) (body depth : ℕ) (st : code.State) (from : step.Step)
     (channel taken m out buffered message : List ℕ) (sum : Sum) (r : Turn) (after on said : List ℕ) : Type 0 where
-  pub exact : (q : Asked s f body depth st from.label channel taken m out) → (stepless ≡ true → stepDepth q.formula ≡ 0) → memoHoldsAt q memo
+  pub exact : (q : Asked s f body depth st from.label channel taken m out) → (stepless ≡ true → step_depth q.formula ≡ 0) → memo_holds_at q memo
       → {others : List Move} → 510 ≤ length buffered → 510 ≤ length message
-      → Resuming from.label st.start (movesAt q) buffered message from others
-      → TurnTo from.label st.start (movesAt q) (judgementsAt q) (memoHoldsAt q) (toCome sum (judgementsAt q others)) on said r
+      → Resuming from.label st.start (moves_at q) buffered message from others
+      → TurnTo from.label st.start (moves_at q) (judgements_at q) (memo_holds_at q) (to_come sum (judgements_at q others)) on said r
       × Within st.end (length out) out after
 
 -- A formula at a position, of which something may be known, at what was formed.
 pub record JudgesBody (memo : Memo) (s f : List ℕ) (at depth : ℕ) (formed : Formed) (m out : List ℕ) (left : ℕ) (r : Judged) (after : List ℕ) : Type 0
   where
     pub exact : (F : Formula) (A : Arrival) {steps next : ℕ} → FormulaAt f at depth steps (length A.state.aliases) F next
-        → Reached s out formed A steps → JudgingRoom s m out → MemoAt memo F A → (r ≡ judgedOf left (judge F A)) × Unchanged formed out after
+        → Reached s out formed A steps → JudgingRoom s m out → MemoAt memo F A → (r ≡ judged_of left (judge F A)) × Unchanged formed out after
 
 -- The body judged at the state that a step leads to, and added to what has come so far.
 abbrev pub turn_of : Memo → Formed → step.Step → Sum → Judged → Turn
@@ -134,10 +134,10 @@ pub record Falls (left : ℕ) (r : Turn) : Type 0 where
 -- All turns, with what is known of the body before them; and all steps.
 pub record AllTurns (stepless : Bool) (memo : Memo) (s f : List ℕ) (head : head.Head) (depth : ℕ) (st : code.State)
     (channel taken m out : List ℕ) (left : ℕ) (r : Judged) (after : List ℕ) : Type 0 where
-  pub exact : (q : Asked s f head.body depth st head.label channel taken m out) → (stepless ≡ true → stepDepth q.formula ≡ 0)
-      → memoHoldsAt q memo → Comes st out left (someOf (judgementsAt q (movesAt q))) r after
+  pub exact : (q : Asked s f head.body depth st head.label channel taken m out) → (stepless ≡ true → step_depth q.formula ≡ 0)
+      → memo_holds_at q memo → Comes st out left (some_of (judgements_at q (moves_at q))) r after
 
 pub record AllSteps (s f : List ℕ) (head : head.Head) (depth : ℕ) (st : code.State) (channel taken m out : List ℕ) (left : ℕ) (r : Judged) (after : List ℕ)
     : Type 0 where
   pub exact : (q : Asked s f head.body depth st head.label channel taken m out)
-      → Comes st out left (someOf (judgementsAt q (movesAt q))) r after
+      → Comes st out left (some_of (judgements_at q (moves_at q))) r after

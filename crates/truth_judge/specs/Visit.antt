@@ -10,7 +10,7 @@ use Rattle.meaning.specs.Messages.Term.{Term}
 use Rattle.state_record.specs.declared.state.State as code
 use Rattle.state_start.specs.declared.form.Formed.{Formed}
 use Rattle.truth_label.specs.Place.{FormulaAt}
-use Rattle.truth_body.specs.Judged.{judgedOf}
+use Rattle.truth_body.specs.Judged.{judged_of}
 use Rattle.truth_body.specs.Reached.{JudgingRoom, Here, Reached, Unchanged}
 use Rattle.truth_body.specs.declared.judged.Judged.{Judged}
 use Rattle.truth_body.specs.declared.judged.Sum.{Sum}
@@ -18,11 +18,11 @@ use Rattle.truth_body.specs.declared.judged.Sum.{Sum}
 -- A formula at a position, judged at what was formed.
 pub record Judges (s f : List ℕ) (at depth : ℕ) (formed : Formed) (m out : List ℕ) (left : ℕ) (r : Judged) (after : List ℕ) : Type 0 where
   pub exact : (F : Formula) (A : Arrival) {steps next : ℕ} → FormulaAt f at depth steps (length A.state.aliases) F next
-      → Reached s out formed A steps → JudgingRoom s m out → (r ≡ judgedOf left (judge F A)) × Unchanged formed out after
+      → Reached s out formed A steps → JudgingRoom s m out → (r ≡ judged_of left (judge F A)) × Unchanged formed out after
 
 -- What a visit comes to, this visit being taken off the budget already.
 pub record Comes (st : code.State) (out : List ℕ) (left : ℕ) (j : Judgement) (r : Judged) (after : List ℕ) : Type 0 where
-  pub answer : r ≡ judgedOf (left + 1) j
+  pub answer : r ≡ judged_of (left + 1) j
   pub kept : Within st.end (length out) out after
 
 -- A formula at a position, judged at a state within its limits.
@@ -48,10 +48,10 @@ pub record Conjoins (s f : List ℕ) (at depth : ℕ) (st : code.State) (m out :
       → Comes st out left (both (judge F A) (judge G A)) r after
 
 -- What both come to, if this is what the first came to and that is the second.
-abbrev pub bothOf : Sum → Judgement → Judgement
-bothOf sum k = record { truth = sum.truth && k.truth; count = k.count; limited = sum.limited || k.limited }
+abbrev pub both_of : Sum → Judgement → Judgement
+both_of sum k = record { truth = sum.truth && k.truth; count = k.count; limited = sum.limited || k.limited }
 
 pub record Seconds (s f : List ℕ) (at depth : ℕ) (st : code.State) (m out : List ℕ) (sum : Sum) (r : Judged) (after : List ℕ) : Type 0 where
   pub exact : (G : Formula) (A : Arrival) {steps next : ℕ} → FormulaAt f at depth steps (length A.state.aliases) G next
       → Here s out st A steps → JudgingRoom s m out
-      → (r ≡ judgedOf sum.left (bothOf sum (judge G A))) × Within st.end (length out) out after
+      → (r ≡ judged_of sum.left (both_of sum (judge G A))) × Within st.end (length out) out after

@@ -3,8 +3,8 @@ use Rattle.std.specs.Prelude.{◌≡◌, Bool, true, false, List, ℕ, ◌≤◌
 use Rattle.meaning.specs.Messages.Term.{Message, leaf, public}
 use Rattle.meaning.specs.Bytes.Formula.{Label, output, input, silent}
 use Rattle.meaning.specs.Steps.State.{Bound, worked}
-use Rattle.meaning.specs.Judging.Limits.{overLabel}
-use Rattle.message_bytes.specs.Encoding.{encodeMessage}
+use Rattle.meaning.specs.Judging.Limits.{over_label}
+use Rattle.message_bytes.specs.Encoding.{encode_message}
 use Rattle.message_term.specs.Bound.{BoundAt}
 use Rattle.state_layout.specs.Loaded.{IsRunOf}
 use Rattle.step_label.specs.declared.step.Label as step
@@ -15,16 +15,16 @@ use Rattle.truth_label.specs.declared.head.Headed.{Headed}
 use Rattle.truth_label.specs.declared.head.Headed.TheVariants.{By, TooLarge}
 
 -- What the steps of a label do.
-abbrev pub stepLabel : Label → step.Label
-stepLabel (output C) = Output
-stepLabel (input C M) = Input
-stepLabel silent = Silent
+abbrev pub label_of_step : Label → step.Label
+label_of_step (output C) = Output
+label_of_step (input C M) = Input
+label_of_step silent = Silent
 
 -- The message of its channel, and the message that an input takes; public name 0 where there is none.
-abbrev pub channelOf : Bound → Label → Message
-channelOf ρ (output C) = worked ρ C
-channelOf ρ (input C M) = worked ρ C
-channelOf ρ silent = leaf (public 0)
+abbrev pub channel_of : Bound → Label → Message
+channel_of ρ (output C) = worked ρ C
+channel_of ρ (input C M) = worked ρ C
+channel_of ρ silent = leaf (public 0)
 
 abbrev pub taken_of : Bound → Label → Message
 taken_of ρ (output C) = leaf (public 0)
@@ -32,25 +32,25 @@ taken_of ρ (input C M) = worked ρ M
 taken_of ρ silent = leaf (public 0)
 
 -- How many bytes the message takes that an input takes.
-abbrev pub takenSize : Bound → Label → ℕ
-takenSize ρ (output C) = 0
-takenSize ρ (input C M) = length (encodeMessage (worked ρ M))
-takenSize ρ silent = 0
+abbrev pub taken_size : Bound → Label → ℕ
+taken_size ρ (output C) = 0
+taken_size ρ (input C M) = length (encode_message (worked ρ M))
+taken_size ρ silent = 0
 
 unfoldable pub head_of : Bound → Label → (body : ℕ) → code.Head
 head_of ρ a body =
-    record { label = stepLabel a; body = body; channel = length (encodeMessage (channelOf ρ a)); taken = takenSize ρ a }
+    record { label = label_of_step a; body = body; channel = length (encode_message (channel_of ρ a)); taken = taken_size ρ a }
 
 -- The answer: the head, or that a recipe or a part of it is too large.
-unfoldable pub headedOf : Bool → code.Head → Headed
-headedOf true h = TooLarge
-headedOf false h = By h
+unfoldable pub headed_of : Bool → code.Head → Headed
+headed_of true h = TooLarge
+headed_of false h = By h
 
 -- The answer r and the two slices are those for the label a under ρ.
 pub record HeadTo (ρ : Bound) (a : Label) (body : ℕ) (r : Headed) (channel taken : List ℕ) : Type 0 where
-  pub answer : r ≡ headedOf (overLabel ρ a) (head_of ρ a body)
-  pub channelled : overLabel ρ a ≡ false → IsRunOf (take (head_of ρ a body).channel channel) (channelOf ρ a)
-  pub taking : overLabel ρ a ≡ false → stepLabel a ≡ Input → IsRunOf (take (head_of ρ a body).taken taken) (taken_of ρ a)
+  pub answer : r ≡ headed_of (over_label ρ a) (head_of ρ a body)
+  pub channelled : over_label ρ a ≡ false → IsRunOf (take (head_of ρ a body).channel channel) (channel_of ρ a)
+  pub taking : over_label ρ a ≡ false → label_of_step a ≡ Input → IsRunOf (take (head_of ρ a body).taken taken) (taken_of ρ a)
 
 -- That holds for whatever label of the kind stands there and whatever messages are bound at base.
 pub record Heads (f : List ℕ) (kind at base start : ℕ) (out : List ℕ) (r : Headed) (channel taken : List ℕ) : Type 0 where

@@ -2,7 +2,7 @@
 ghost use Rattle.std.specs.Prelude.{◌+◌, ◌≤◌, length};
 ghost use Rattle.buffer.specs.Buffer.{Within, SameLength};
 ghost use Rattle.truth_label.specs.Head.{Heads, Short};
-ghost use Rattle.truth_label.specs.Inner.{outputHead, inputHead, Tells, Inputs, Silences};
+ghost use Rattle.truth_label.specs.Inner.{output_head, input_head, Tells, Inputs, Silences};
 
 use crate::recipe;
 use buffer::word;
@@ -42,7 +42,7 @@ fn output(
     ensures within { Within start (start + 4096) out.old out.new }
     ensures same_length { SameLength channel.old channel.new }
     ensures short { Short result }
-    ensures tells { Tells f.now at base start out.old outputHead result channel.new }
+    ensures tells { Tells f.now at base start out.old output_head result channel.new }
 {
     match recipe::recipe(f, at, base, start, out, channel) {
         Worked::Done(next, end) => Headed::By(Head {
@@ -69,7 +69,7 @@ fn message(
     ensures within { Within start (start + 4096) out.old out.new }
     ensures same_length { SameLength taken.old taken.new }
     ensures short { Short result }
-    ensures tells { Tells f.now at base start out.old (inputHead channel) result taken.new }
+    ensures tells { Tells f.now at base start out.old (input_head channel) result taken.new }
 {
     match recipe::recipe(f, at, base, start, out, taken) {
         Worked::Done(next, end) => Headed::By(Head {

@@ -8,5 +8,5 @@ abbrev pub numbers : Answer → Numbers
 numbers a = record { result = a.result; slice = a.slice; place = a.place; count = a.count }
 
 -- Turned back for the input: the count is 0.
-abbrev pub turnedBack : (result slice place : ℕ) → Numbers
-turnedBack result slice place = record { result = result; slice = slice; place = place; count = 0 }
+abbrev pub turned_back : (result slice place : ℕ) → Numbers
+turned_back result slice place = record { result = result; slice = slice; place = place; count = 0 }

@@ -1,7 +1,7 @@
 // The answer on a finding, four numbers ("Turned back for the input"; "Turned back for the state").
 ghost use Rattle.std.specs.Prelude.{◌≡◌};
 ghost use Rattle.meaning.specs.Verdict.{answer};
-ghost use Rattle.verdict_input.specs.Answer.{numbers, turnedBack};
+ghost use Rattle.verdict_input.specs.Answer.{numbers, turned_back};
 
 // The result, 0 for accepted; the slice (1 first model, 2 second, 3 formula, 0 none); the place, a byte offset; and the count.
 #[repr(C)]
@@ -15,7 +15,7 @@ pub struct Answer {
 
 // Turned back for the input.
 pub fn refusal(number: u32, slice: u32, place: u32) -> Answer
-    ensures { numbers result ≡ turnedBack number slice place }
+    ensures { numbers result ≡ turned_back number slice place }
 {
     Answer {
         result: number,

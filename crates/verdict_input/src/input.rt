@@ -3,7 +3,7 @@ ghost use Rattle.std.specs.Prelude.{◌≡◌};
 ghost use Rattle.std.proofs.Math.Option.{or_else};
 ghost use Rattle.meaning.specs.Verdict.{input};
 ghost use Rattle.decode_number.specs.Answer.{answer};
-ghost use Rattle.verdict_input.specs.Input.{refusal, refusalOf, bufferRefusal, sliceRefusal, Placed};
+ghost use Rattle.verdict_input.specs.Input.{refusal, refusal_of, buffer_refusal, slice_refusal, Placed};
 
 use crate::answer;
 use crate::answer::Answer;
@@ -29,7 +29,7 @@ fn earlier(a: Input, b: Input) -> Input
 
 // The work buffer, by its length.
 fn buffer(work: usize) -> Input
-    ensures { refusal result ≡ bufferRefusal work }
+    ensures { refusal result ≡ buffer_refusal work }
 {
     if work < limit::WORK {
         return Input::Bad(answer::refusal(9, 0, 0));
@@ -40,7 +40,7 @@ fn buffer(work: usize) -> Input
 // A slice, by what was read of it.
 fn slice(number: u32, read: Read) -> Input
     requires { Placed read }
-    ensures { refusal result ≡ sliceRefusal number (answer read) }
+    ensures { refusal result ≡ slice_refusal number (answer read) }
 {
     match read {
         Read::Ends(_) => Input::Good,
@@ -50,7 +50,7 @@ fn slice(number: u32, read: Read) -> Input
 
 // The buffer is tested first.
 pub fn read(first: &[u8], second: &[u8], formula: &[u8], work: usize) -> Input
-    ensures { refusal result ≡ refusalOf (input first.now second.now formula.now work) }
+    ensures { refusal result ≡ refusal_of (input first.now second.now formula.now work) }
 {
     let one = slice(1, decode_slice::read_model(first));
     let two = slice(2, decode_slice::read_model(second));

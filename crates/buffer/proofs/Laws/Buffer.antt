@@ -9,7 +9,7 @@ use lib.ListN.{length, take, drop, set, length-append, length-drop, take-append-
 use lib.Seq.{take-nil, take-take, drop-drop, take_at, drop_at, take-append_seam, length-take-le, take-length, sets-eq, paste}
 use Rattle.meaning.specs.Bytes.Standing.{Stands}
 use Rattle.meaning.proofs.Bytes.Reading.Place.{stands, whole-stands}
-use Rattle.buffer.specs.Word.{encodeWord}
+use Rattle.buffer.specs.Word.{encode_word}
 use Rattle.buffer.specs.Buffer.{Within}
 
 -- A part of a list, cut at its end first.
@@ -70,16 +70,16 @@ module _ (s : List ℕ) (at : ℕ) (ys : List ℕ) (fits : at + length ys ≤ le
   after_front : drop at (splice s at ys) ≡ ys ++ drop (at + length ys) s
   after_front = rw append_assoc (drop_at (take at s) (ys ++ drop (at + length ys) s) at front)
 
-  pub splice-stands : {xs : List ℕ} {end : ℕ} → Stands ys 0 xs end → Stands (splice s at ys) at xs (at + end)
-  splice-stands {xs} {end} p =
+  pub splice_stands : {xs : List ℕ} {end : ℕ} → Stands ys 0 xs end → Stands (splice s at ys) at xs (at + end)
+  splice_stands {xs} {end} p =
       let size : at + end ≡ at + length xs = omega (arith, p.size) in
       rw size (
       stands (splice s at ys) at xs (drop end ys ++ drop (at + length ys) s)
       (after_front ∙ ap (λ l. l ++ drop (at + length ys) s) p.bytes ∙ append_assoc xs (drop end ys) (drop (at + length ys) s))
       )
 
-  pub splice-within : Within at (at + length ys) s (splice s at ys)
-  splice-within = record {
+  pub splice_within : Within at (at + length ys) s (splice s at ys)
+  splice_within = record {
     long = simp (length-append, length-drop) (omega (arith, front));
     below = rw append_assoc (take_at (take at s) (ys ++ drop (at + length ys) s) at front);
     above = drop_at (take at s ++ ys) (drop (at + length ys) s) (at + length ys) (simp length-append (omega (arith, front)));
@@ -87,60 +87,60 @@ module _ (s : List ℕ) (at : ℕ) (ys : List ℕ) (fits : at + length ys ≤ le
 
 -- What the code writes is such a list: a node's number, a copy, another slice, and a part that was lent and came back.
 module _ (s : List ℕ) (at : ℕ) {t : List ℕ} where
-  spliced-within : {high : ℕ} (ys : List ℕ) → t ≡ splice s at ys → at + length ys ≡ high → high ≤ length s → Within at high s t
-  spliced-within ys e f h = rw (e, ← f) (splice-within s at ys (omega arith))
+  spliced_within : {high : ℕ} (ys : List ℕ) → t ≡ splice s at ys → at + length ys ≡ high → high ≤ length s → Within at high s t
+  spliced_within ys e f h = rw (e, ← f) (splice_within s at ys (omega arith))
 
-  spliced-stands : {xs : List ℕ} {end : ℕ} (ys : List ℕ) → t ≡ splice s at ys → at + length ys ≤ length s → Stands ys 0 xs end
+  spliced_stands : {xs : List ℕ} {end : ℕ} (ys : List ℕ) → t ≡ splice s at ys → at + length ys ≤ length s → Stands ys 0 xs end
       → Stands t at xs (at + end)
-  spliced-stands ys e h p = rw e (splice-stands s at ys h p)
+  spliced_stands ys e h p = rw e (splice_stands s at ys h p)
 
   module _ (v : ℕ) (e : t ≡ set (set s at (v % 256)) (at + 1) (v / 256)) (h : at + 2 ≤ length s) where
-    as-spliced : t ≡ splice s at (encodeWord v)
-    unfolding encodeWord
-    as-spliced = e ∙ rw add-one (sets-eq (v % 256 ∷ v / 256 ∷ []) s at (omega arith))
+    as_spliced : t ≡ splice s at (encode_word v)
+    unfolding encode_word
+    as_spliced = e ∙ rw add-one (sets-eq (v % 256 ∷ v / 256 ∷ []) s at (omega arith))
 
-    pub node-within : Within at (at + 2) s t
-    unfolding encodeWord
-    node-within = spliced-within (encodeWord v) as-spliced refl h
+    pub node_within : Within at (at + 2) s t
+    unfolding encode_word
+    node_within = spliced_within (encode_word v) as_spliced refl h
 
-    pub node-stands : Stands t at (encodeWord v) (at + 2)
-    unfolding encodeWord
-    node-stands = spliced-stands (encodeWord v) as-spliced h (whole-stands (encodeWord v))
+    pub node_stands : Stands t at (encode_word v) (at + 2)
+    unfolding encode_word
+    node_stands = spliced_stands (encode_word v) as_spliced h (whole-stands (encode_word v))
 
   module _ (from n : ℕ) (e : t ≡ paste s at (drop from s) n) (h : at + n ≤ length s) (l : from + n ≤ length s) where
     pub copy_within : Within at (at + n) s t
     copy_within =
         let size : length (take n (drop from s)) ≡ n = length-take-le n (drop from s) (rw length-drop (omega arith)) in
-        spliced-within (take n (drop from s)) (e ∙ rw size) (rw size) h
+        spliced_within (take n (drop from s)) (e ∙ rw size) (rw size) h
 
-    pub copy-stands : {xs : List ℕ} → Stands s from xs (from + n) → Stands t at xs (at + n)
-    copy-stands {xs} p =
+    pub copy_stands : {xs : List ℕ} → Stands s from xs (from + n) → Stands t at xs (at + n)
+    copy_stands {xs} p =
         let size : n ≡ length xs = omega (arith, p.size) in
         let same : t ≡ splice s at xs = e ∙ rw (size, seen p) in
-        rw size (spliced-stands xs same (omega arith) (whole-stands xs))
+        rw size (spliced_stands xs same (omega arith) (whole-stands xs))
 
   module _ (ys : List ℕ) (e : t ≡ paste s at ys (length ys)) (h : at + length ys ≤ length s) where
-    pub put-within : Within at (at + length ys) s t
-    put-within = spliced-within ys (e ∙ rw take-length) refl h
+    pub put_within : Within at (at + length ys) s t
+    put_within = spliced_within ys (e ∙ rw take-length) refl h
 
-    pub put-stands : Stands t at ys (at + length ys)
-    put-stands = spliced-stands ys (e ∙ rw take-length) h (whole-stands ys)
+    pub put_stands : Stands t at ys (at + length ys)
+    put_stands = spliced_stands ys (e ∙ rw take-length) h (whole-stands ys)
 
   module _ (ys : List ℕ) (end : ℕ) (e : t ≡ take at s ++ (ys ++ drop (end - at) (drop at s))) (f : length ys ≡ end - at)
       (l : at ≤ end) (h : end ≤ length s) where
     back : t ≡ splice s at ys
     back = e ∙ rw (drop-drop, ← f, append_assoc)
 
-    pub back-within : Within at end s t
-    back-within = spliced-within ys back (omega arith) h
+    pub back_within : Within at end s t
+    back_within = spliced_within ys back (omega arith) h
 
-    pub back-stands : {xs : List ℕ} {last : ℕ} → Stands ys 0 xs last → Stands t at xs (at + last)
-    back-stands p = spliced-stands ys back (omega arith) p
+    pub back_stands : {xs : List ℕ} {last : ℕ} → Stands ys 0 xs last → Stands t at xs (at + last)
+    back_stands p = spliced_stands ys back (omega arith) p
 
 -- One call after another.
-pub one-after : {s t u : List ℕ} {low high low₁ high₁ low₂ high₂ : ℕ} → Within low₁ high₁ s t → Within low₂ high₂ t u
+pub one_after : {s t u : List ℕ} {low high low₁ high₁ low₂ high₂ : ℕ} → Within low₁ high₁ s t → Within low₂ high₂ t u
     → low ≤ low₁ → low ≤ low₂ → high₁ ≤ high → high₂ ≤ high → Within low high s u
-one-after {s} {t} {u} {low} {high} p q l₁ l₂ h₁ h₂ = record {
+one_after {s} {t} {u} {low} {high} p q l₁ l₂ h₁ h₂ = record {
   long = q.long ∙ p.long;
   below = lower q l₂ ∙ lower p l₁;
   above = higher q h₂ ∙ higher p h₁;
@@ -158,4 +158,4 @@ pub unchanged : {s : List ℕ} {low high : ℕ} → Within low high s s
 unchanged = record { long = refl; below = refl; above = refl }
 
 pub wider : {s t : List ℕ} {low high low₁ high₁ : ℕ} → Within low₁ high₁ s t → low ≤ low₁ → high₁ ≤ high → Within low high s t
-wider {low} {high} p l h = one-after p (unchanged {low = low} {high = high}) l (omega arith) h (omega arith)
+wider {low} {high} p l h = one_after p (unchanged {low = low} {high = high}) l (omega arith) h (omega arith)

@@ -37,14 +37,14 @@ module _ (m : List ℕ) (from to count i : ℕ) (apart : (to ≤ from) ⊎ (from
       rw (e, untouched, ← get_or-drop from m i 0, add-one) (paste-suc m to (drop from m) i 0 (omega arith) reach)
 
 -- So many bytes are copied when no more are left.
-pub paste-done : {now : List ℕ} (m x : List ℕ) (to n i : ℕ) → now ≡ paste m to x i → i ≤ n → n ≤ i → now ≡ paste m to x n
-paste-done m x to n i e h l = let all : n ≡ i = omega arith in rw all e
+pub paste_done : {now : List ℕ} (m x : List ℕ) (to n i : ℕ) → now ≡ paste m to x i → i ≤ n → n ≤ i → now ≡ paste m to x n
+paste_done m x to n i e h l = let all : n ≡ i = omega arith in rw all e
 
-pub ruleset copies = (paste-zero, copy_more, paste-done)
+pub ruleset copies = (paste-zero, copy_more, paste_done)
 
 -- A copy of a whole slice.
-pub put-more : {now : List ℕ} (m x : List ℕ) (to i : ℕ) → now ≡ paste m to x i → i < length x → to + length x ≤ length m
+pub put_more : {now : List ℕ} (m x : List ℕ) (to i : ℕ) → now ≡ paste m to x i → i < length x → to + length x ≤ length m
     → set now (to + i) (get_or x i 0) ≡ paste m to x (i + 1)
-put-more m x to i e h room = rw (e, add-one) (paste-suc m to x i 0 (omega arith) h)
+put_more m x to i e h room = rw (e, add-one) (paste-suc m to x i 0 (omega arith) h)
 
-pub ruleset puts = (paste-zero, put-more, paste-done)
+pub ruleset puts = (paste-zero, put_more, paste_done)

@@ -14,9 +14,9 @@ use Rattle.decode_layout.specs.Layout.{fields, parts, layout_of}
 use Rattle.decode_layout.specs.Ends.{row, InRow, EndOf, RowEnd}
 
 -- The bytes of one row after another are those of one row.
-pub row-append : {A : Type 0} (encode : A → List ℕ) (xs ys : List A) → row encode (xs ++ ys) ≡ row encode xs ++ row encode ys
-row-append encode [] ys = refl
-row-append encode (x ∷ xs) ys = rw (row-append encode xs ys, append_assoc)
+pub row_append : {A : Type 0} (encode : A → List ℕ) (xs ys : List A) → row encode (xs ++ ys) ≡ row encode xs ++ row encode ys
+row_append encode [] ys = refl
+row_append encode (x ∷ xs) ys = rw (row_append encode xs ys, append_assoc)
 
 -- The first byte of bytes that stand at a position is the slice's byte there, so the slice goes on there.
 pub first_byte : {s xs : List ℕ} {at end b : ℕ} → Stands s at (b ∷ xs) end → b ≡ get_or s at 0
@@ -54,8 +54,8 @@ module _ {A : Type 0} {encode : A → List ℕ} {s : List ℕ} {at : ℕ} where
   alone h =
       record { same = λ a p. h.same (record { trees = a ∷ []; many = refl; there = rw append-nil p }) }
 
-  pub row-alone : {r : ℕ} → EndOf encode s at r → RowEnd encode s at 1 r
-  row-alone {r} h = record { same = λ p. single p.trees p.many p.there }
+  pub row_alone : {r : ℕ} → EndOf encode s at r → RowEnd encode s at 1 r
+  row_alone {r} h = record { same = λ p. single p.trees p.many p.there }
     where
       single : (xs : List A) {end : ℕ} → length xs ≡ 1 → Stands s at (row encode xs) end → r ≡ end
       single [] e p = omega arith
@@ -115,7 +115,7 @@ module _ {A B : Type 0} {field : B → List ℕ} {encode : A → List ℕ} {kind
       record {
         trees = N.inner ++ xs;
         many = omega (arith, length-append N.inner xs, N.parted, ap parts same);
-        there = rw (row-append encode N.inner xs, fields-end) (t ⨾ rest);
+        there = rw (row_append encode N.inner xs, fields-end) (t ⨾ rest);
       }
 
   pub step : {s : List ℕ} {at count i left b r : ℕ} {l : Layout} → Traversed encode s at count i left → 0 < left

@@ -6,9 +6,9 @@ use native.Mathlib.Omega.{arith}
 use borrow.Author.Tests.{lt-ltb, le-ltb}
 use lib.ListN.{length, get_or}
 use Rattle.meaning.specs.Bytes.Number.{Read, found, refused, and_then, number}
-use Rattle.decode_number.specs.Answer.{refusalNumber, numeral, bounded, extent}
-use Rattle.decode_number.specs.Bounded.{numberBelow}
-use Rattle.decode_number.proofs.Laws.Number.{nothing-there, one_byte}
+use Rattle.decode_number.specs.Answer.{refusal_number, numeral, bounded, extent}
+use Rattle.decode_number.specs.Bounded.{number_below}
+use Rattle.decode_number.proofs.Laws.Number.{nothing_there, one_byte}
 use Rattle.decode_number.specs.declared.answer.Refusal.{Refusal}
 use Rattle.decode_number.specs.declared.number.Numeral.{Numeral}
 use Rattle.decode_number.specs.declared.number.Numeral.TheVariants.{Value, Truncated, Malformed}
@@ -16,31 +16,31 @@ use Rattle.decode_number.specs.declared.number.Bounded.{Bounded}
 use Rattle.decode_number.specs.declared.number.Bounded.TheVariants.{Is, Refused}
 
 module _ (s : List ℕ) (at limit : ℕ) (why : Refusal) {r : Numeral} (e : numeral s at r ≡ number s at) where
-  pub is_below : {n end : ℕ} → r ≡ Value n end → n < limit → found n end ≡ numberBelow limit why s at
-  unfolding numberBelow and_then
+  pub is_below : {n end : ℕ} → r ≡ Value n end → n < limit → found n end ≡ number_below limit why s at
+  unfolding number_below and_then
   is_below {n} f h = rw (← e, f, lt-ltb n limit h)
 
-  pub is-above : {n end : ℕ} → r ≡ Value n end → limit ≤ n → refused (refusalNumber why) at ≡ numberBelow limit why s at
-  unfolding numberBelow and_then
-  is-above {n} f h = rw (← e, f, le-ltb n limit h)
+  pub is_above : {n end : ℕ} → r ≡ Value n end → limit ≤ n → refused (refusal_number why) at ≡ number_below limit why s at
+  unfolding number_below and_then
+  is_above {n} f h = rw (← e, f, le-ltb n limit h)
 
-  pub ends-early : r ≡ Truncated → refused 2 (length s) ≡ numberBelow limit why s at
-  unfolding numberBelow and_then
-  ends-early f = rw (← e, f)
+  pub ends_early : r ≡ Truncated → refused 2 (length s) ≡ number_below limit why s at
+  unfolding number_below and_then
+  ends_early f = rw (← e, f)
 
-  pub badly-formed : r ≡ Malformed → refused 3 at ≡ numberBelow limit why s at
-  unfolding numberBelow and_then
-  badly-formed f = rw (← e, f)
+  pub badly_formed : r ≡ Malformed → refused 3 at ≡ number_below limit why s at
+  unfolding number_below and_then
+  badly_formed f = rw (← e, f)
 
 -- Where every number below the limit has one byte, by that byte.
 module _ (s : List ℕ) (at limit : ℕ) (why : Refusal) where
-  pub no_byte : length s ≤ at → refused 2 (length s) ≡ numberBelow limit why s at
-  unfolding numberBelow and_then
-  no_byte h = rw (← nothing-there s at h)
+  pub no_byte : length s ≤ at → refused 2 (length s) ≡ number_below limit why s at
+  unfolding number_below and_then
+  no_byte h = rw (← nothing_there s at h)
 
-  pub byte-below : {b : ℕ} → at < length s → b ≡ get_or s at 0 → b < limit → limit ≤ 128 → found b (at + 1) ≡ numberBelow limit why s at
-  unfolding numberBelow and_then
-  byte-below {b} h e l m = rw (← one_byte s at h e (omega arith), lt-ltb b limit l)
+  pub byte_below : {b : ℕ} → at < length s → b ≡ get_or s at 0 → b < limit → limit ≤ 128 → found b (at + 1) ≡ number_below limit why s at
+  unfolding number_below and_then
+  byte_below {b} h e l m = rw (← one_byte s at h e (omega arith), lt-ltb b limit l)
 
 -- Where only the end is asked for.
 module _ {x : Read ℕ} {r : Bounded} (e : bounded r ≡ x) where
@@ -48,8 +48,8 @@ module _ {x : Read ℕ} {r : Bounded} (e : bounded r ≡ x) where
   unfolding extent
   end_of f = rw (← e, f)
 
-  pub refusal-of : {why : Refusal} {place : ℕ} → r ≡ Refused why place → refused (refusalNumber why) place ≡ extent x
+  pub refusal-of : {why : Refusal} {place : ℕ} → r ≡ Refused why place → refused (refusal_number why) place ≡ extent x
   unfolding extent
   refusal-of f = rw (← e, f)
 
-pub ruleset bounds = (is_below, is-above, ends-early, badly-formed, no_byte, byte-below, end_of, refusal-of)
+pub ruleset bounds = (is_below, is_above, ends_early, badly_formed, no_byte, byte_below, end_of, refusal-of)

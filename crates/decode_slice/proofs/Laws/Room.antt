@@ -6,40 +6,40 @@ use Prim.Native.Nat.{ℕ}
 use borrow.Author.Tests.{eq-eqb, ne_eqb, not-true, not-false}
 use lib.Dec.{ltb}
 use Rattle.decode_number.specs.Answer.{Extent}
-use Rattle.decode_term.specs.Shape.{termsAt}
-use Rattle.decode_slice.specs.Sorts.{ownTerms, processRoom, formulaRoom}
+use Rattle.decode_term.specs.Shape.{terms_at}
+use Rattle.decode_slice.specs.Sorts.{own_terms, process_room, formula_room}
 use Rattle.decode_layout.specs.declared.layout.Layout.{Layout}
 use Rattle.decode_layout.specs.Layout.{fields, binds, step}
 
 -- Room for a variable, or for a step formula, if the kind needs it.
 module _ (scope : ℕ) (l : Layout) where
-  pub binds-none : binds l ≡ 0 → true ≡ processRoom scope l
-  unfolding processRoom
-  binds-none z = rw (eq-eqb (binds l) 0 z)
+  pub binds_none : binds l ≡ 0 → true ≡ process_room scope l
+  unfolding process_room
+  binds_none z = rw (eq-eqb (binds l) 0 z)
 
-  pub binds-one : (binds l ≡ 0 → ⊥) → ltb scope 12 ≡ processRoom scope l
-  unfolding processRoom
-  binds-one z = rw (ne_eqb (binds l) 0 z)
+  pub binds_one : (binds l ≡ 0 → ⊥) → ltb scope 12 ≡ process_room scope l
+  unfolding process_room
+  binds_one z = rw (ne_eqb (binds l) 0 z)
 
-  pub has_room : {k : Layout} {b c : Bool} → b ≡ processRoom scope k → k ≡ l → b ≡ c → processRoom scope l ≡ c
+  pub has_room : {k : Layout} {b c : Bool} → b ≡ process_room scope k → k ≡ l → b ≡ c → process_room scope l ≡ c
   has_room e f g = cc
 
 module _ (steps : ℕ) (l : Layout) where
-  pub no_step : step l ≡ 0 → true ≡ formulaRoom steps l
-  unfolding formulaRoom
+  pub no_step : step l ≡ 0 → true ≡ formula_room steps l
+  unfolding formula_room
   no_step z = rw (eq-eqb (step l) 0 z)
 
-  pub a-step : (step l ≡ 0 → ⊥) → ltb 0 steps ≡ formulaRoom steps l
-  unfolding formulaRoom
-  a-step z = rw (ne_eqb (step l) 0 z)
+  pub a_step : (step l ≡ 0 → ⊥) → ltb 0 steps ≡ formula_room steps l
+  unfolding formula_room
+  a_step z = rw (ne_eqb (step l) 0 z)
 
-  pub has-step : {k : Layout} {b c : Bool} → b ≡ formulaRoom steps k → k ≡ l → b ≡ c → formulaRoom steps l ≡ c
-  has-step e f g = cc
+  pub has_step : {k : Layout} {b c : Bool} → b ≡ formula_room steps k → k ≡ l → b ≡ c → formula_room steps l ≡ c
+  has_step e f g = cc
 
 -- Terms in a row, of which a table says how many.
 pub counted : {x : Extent} {k l : Layout} (scope : ℕ) (s : List ℕ) (at : ℕ) → k ≡ l
-    → x ≡ termsAt (fields k) scope s at → x ≡ ownTerms scope s l at
-unfolding ownTerms
+    → x ≡ terms_at (fields k) scope s at → x ≡ own_terms scope s l at
+unfolding own_terms
 counted scope s at e h = rw e at h
 
-pub ruleset rooms = (binds-none, binds-one, has_room, no_step, a-step, has-step, counted, not-true, not-false)
+pub ruleset rooms = (binds_none, binds_one, has_room, no_step, a_step, has_step, counted, not-true, not-false)

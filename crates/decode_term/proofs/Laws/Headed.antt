@@ -7,9 +7,9 @@ use native.Mathlib.Omega.{arith}
 use lib.Dec.{T, ltb, ltb→lt}
 use mir.Facts.{and_yes}
 use Rattle.meaning.specs.Bytes.Number.{Read, found, refused, number}
-use Rattle.meaning.proofs.Bytes.Reader.{Only, holds, fails, and-then, by-provided, of-found}
+use Rattle.meaning.proofs.Bytes.Reader.{Only, holds, fails, and-then, by_provided, of_found}
 use Rattle.decode_number.specs.Answer.{Extent, bounded}
-use Rattle.decode_number.specs.Bounded.{numberBelow}
+use Rattle.decode_number.specs.Bounded.{number_below}
 use Rattle.decode_term.specs.Shape.{head_of}
 use Rattle.decode_number.specs.declared.answer.Refusal.{Refusal}
 use Rattle.decode_number.specs.declared.number.Bounded.{Bounded}
@@ -19,43 +19,43 @@ anything : {A : Type 0} (x : Read A) → Only (λ a end. Unit {0}) x
 anything (found a end) = holds tt
 anything (refused number place) = fails tt
 
-below-sound : (limit : ℕ) (why : Refusal) (s : List ℕ) (at : ℕ) → Only (λ n end. n < limit) (numberBelow limit why s at)
-unfolding numberBelow
-below-sound limit why s at =
-    and-then (anything (number s at)) λ n end u. by-provided (ltb n limit) _ _ _ _ (λ t. ltb→lt n limit t) (λ t. tt)
+below_sound : (limit : ℕ) (why : Refusal) (s : List ℕ) (at : ℕ) → Only (λ n end. n < limit) (number_below limit why s at)
+unfolding number_below
+below_sound limit why s at =
+    and-then (anything (number s at)) λ n end u. by_provided (ltb n limit) _ _ _ _ (λ t. ltb→lt n limit t) (λ t. tt)
 
 -- A kind that was read is a listed one.
-pub listed : (kinds : ℕ) (why : Refusal) (s : List ℕ) (at : ℕ) {r : Bounded} → bounded r ≡ numberBelow kinds why s at
+pub listed : (kinds : ℕ) (why : Refusal) (s : List ℕ) (at : ℕ) {r : Bounded} → bounded r ≡ number_below kinds why s at
     → {k end : ℕ} → r ≡ Is k end → k < kinds
 listed kinds why s at e {k} {end} f =
-    let read : numberBelow kinds why s at ≡ found k end = sym e ∙ rw f in of-found (below-sound kinds why s at) read
+    let read : number_below kinds why s at ≡ found k end = sym e ∙ rw f in of_found (below_sound kinds why s at) read
 
 module _ (kinds left : ℕ) (room : ℕ → Bool) (own : ℕ → ℕ → Extent) (s : List ℕ) (at : ℕ) where
-  head-sound : Only (λ k end. (k < kinds) × (0 < left) × T (room k)) (head_of kinds left room own s at)
+  head_sound : Only (λ k end. (k < kinds) × (0 < left) × T (room k)) (head_of kinds left room own s at)
   unfolding head_of
-  head-sound =
-      and-then (below-sound kinds _ s at) λ k end h. and-then (by-provided (ltb 0 left && room k) _ _ _ _
+  head_sound =
+      and-then (below_sound kinds _ s at) λ k end h. and-then (by_provided (ltb 0 left && room k) _ _ _ _
       (λ t. let (l, u) = and_yes (ltb 0 left) (room k) t in (h, ltb→lt 0 left l, u)) (λ t. tt))
       λ k end h. and-then (anything (own k end)) λ u end v. holds h
 
   module _ {r : Bounded} (e : bounded r ≡ head_of kinds left room own s at) {k end : ℕ} (f : r ≡ Is k end) where
     facts : (k < kinds) × (0 < left) × T (room k)
-    facts = let read : head_of kinds left room own s at ≡ found k end = sym e ∙ rw f in of-found head-sound read
+    facts = let read : head_of kinds left room own s at ≡ found k end = sym e ∙ rw f in of_found head_sound read
 
-    pub kind-listed : k < kinds
-    kind-listed = facts.0
+    pub kind_listed : k < kinds
+    kind_listed = facts.0
 
-    pub node-left : 1 ≤ left
-    node-left = omega (arith, facts.1)
+    pub node_left : 1 ≤ left
+    node_left = omega (arith, facts.1)
 
     -- One node less is left for the parts, so fewer than for what was asked for.
-    pub left-falls : left - 1 < left
-    left-falls = omega (arith, facts.1)
+    pub left_falls : left - 1 < left
+    left_falls = omega (arith, facts.1)
 
     pub part_falls : {asked t : ℕ} → left ≤ asked → asked ≡ t → left - 1 < t
     part_falls g i = omega (arith, facts.1)
 
-    pub room-left : T (room k)
-    room-left = facts.2
+    pub room_left : T (room k)
+    room_left = facts.2
 
-pub ruleset headed = (kind-listed, node-left, left-falls, part_falls)
+pub ruleset headed = (kind_listed, node_left, left_falls, part_falls)

@@ -13,9 +13,9 @@ use Rattle.meaning.specs.Bytes.Reading.{listed, kind, never}
 use Rattle.decode_number.specs.Answer.{Extent}
 use Rattle.decode_layout.specs.declared.layout.Layout.{Layout}
 use Rattle.decode_layout.specs.Layout.{parts, layout_of}
-use Rattle.decode_number.specs.Bounded.{numberBelow}
+use Rattle.decode_number.specs.Bounded.{number_below}
 use Rattle.decode_term.specs.Shape.{head_of, times, node}
-use Rattle.decode_term.proofs.Laws.Alike.{Alike, both-refused, then-alike, test-alike, then-assoc}
+use Rattle.decode_term.proofs.Laws.Alike.{Alike, both_refused, then_alike, test_alike, then_assoc}
 
 -- Rows are written one after the other, `complete` last.
 infixr 5 ◌also◌
@@ -57,9 +57,9 @@ module _ {K A : Type 0} (allowed : K → Bool) (after : K → ℕ → Read A) wh
       (and_then (listed o at end) (λ k end. and_then (provided (allowed k) 7 at k end) after))
       (and_then (provided (ltb n count) 4 at n end) (λ k end. and_then (provided (room k) 7 at k end) rest))
   unfolding and_then
-  by_number count room rest n at end none h = rw (le-ltb n count h) both-refused
+  by_number count room rest n at end none h = rw (le-ltb n count h) both_refused
   by_number count room rest n at end (some k) (h, same) =
-      rw (lt-ltb n count h, ← same.0) (test-alike (allowed k) 7 at k n end after rest λ t. same.1 t end)
+      rw (lt-ltb n count h, ← same.0) (test_alike (allowed k) 7 at k n end after rest λ t. same.1 t end)
 
   -- A head and parts that agree with the kinds row by row are alike to the reader that goes by kinds.
   module _ (kinds : List K) (left : ℕ) (room : ℕ → Bool) (own : ℕ → ℕ → Extent) (table : List Layout) (part : ℕ → ℕ → Extent)
@@ -67,9 +67,9 @@ module _ {K A : Type 0} (allowed : K → Bool) (after : K → ℕ → Read A) wh
     by_rows : (allow : Bool) → ltb 0 left ≡ allow
         → Rows kinds (λ n. allow && room n) (λ n end. and_then (own n end) (λ _ end. times (parts (layout_of table n)) (part n) end))
         → Alike (and_then (kind kinds allowed s at) after) (node (head_of (length kinds) left room own s at) table part)
-    unfolding kind node head_of numberBelow and_then
+    unfolding kind node head_of number_below and_then
     by_rows allow e rows =
-        simp (then-assoc, e) (then-alike (number s at) λ n end.
+        simp (then_assoc, e) (then_alike (number s at) λ n end.
         by_number (length kinds) (λ n. allow && room n) _ n at end (get_elem? kinds n) (means kinds _ _ rows n))
 
     pub node_alike : 0 < left
@@ -83,8 +83,8 @@ module _ {K A : Type 0} (after : K → ℕ → Read A) where
   no_rows [] rest = tt
   no_rows (k ∷ kinds) rest = ((refl, λ t. absurd t), no_rows kinds (λ n. rest (suc n)))
 
-  pub too-deep : (kinds : List K) (room : ℕ → Bool) (own : ℕ → ℕ → Extent) (table : List Layout) (part : ℕ → ℕ → Extent)
+  pub too_deep : (kinds : List K) (room : ℕ → Bool) (own : ℕ → ℕ → Extent) (table : List Layout) (part : ℕ → ℕ → Extent)
       (s : List ℕ) (at : ℕ)
       → Alike (and_then (kind kinds never s at) after) (node (head_of (length kinds) 0 room own s at) table part)
-  too-deep kinds room own table part s at =
+  too_deep kinds room own table part s at =
       by_rows never after kinds 0 room own table part s at false refl (no_rows kinds _)

@@ -1,6 +1,6 @@
 -- `gubzsenil::gubzsenil_verdict` meets its contract, by what was read.
 use borrow.Author.Rules.{rules}
-use Rattle.gubzsenil.proofs.Laws.Verdict.{Slices, slices-of, shorts, verdicts}
+use Rattle.gubzsenil.proofs.Laws.Verdict.{Slices, slices_of, shorts, verdicts}
 use Rattle.gubzsenil.proofs.gubzsenil_verdict.Statement.{statement}
 use Rattle.gubzsenil.proofs.gubzsenil_verdict.Tie as tie
 
@@ -8,7 +8,7 @@ use Rattle.gubzsenil.proofs.gubzsenil_verdict.Tie as tie
 slices : (c : tie.After-shared-slice-known3)
     → let args = c.before.before.before.args in Slices args.first.now args.second.now args.formula.now
 slices c =
-    slices-of _ _ _
+    slices_of _ _ _
     c.before.before.shared-slice-known.given c.before.shared-slice-known2.given c.shared-slice-known3.given
 
 pub gubzsenil-verdict-spec : {M : Type 1} → statement M

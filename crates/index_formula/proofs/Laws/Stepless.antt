@@ -3,14 +3,14 @@ use mathlib.Core.Path.{◌≡◌}
 use mathlib.Core.Bool.{true, and-eq-true_iff, false≢true}
 use native.Mathlib.Omega.{arith}
 use Rattle.meaning.specs.Bytes.Formula.{Formula, equal, not, and, step}
-use Rattle.meaning.specs.Bytes.Nesting.{stepDepth}
-use Rattle.index_formula.specs.Index.{isStepless}
+use Rattle.meaning.specs.Bytes.Nesting.{step_depth}
+use Rattle.index_formula.specs.Index.{is_stepless}
 
-pub stepless-depth : (F : Formula) → isStepless F ≡ true → stepDepth F ≡ 0
-unfolding isStepless
-stepless-depth (equal M N) t = omega arith
-stepless-depth (not F) t = stepless-depth F t
-stepless-depth (and F G) t =
-    let (left, right) = (and-eq-true_iff (isStepless F) (isStepless G)).0 t in
-    omega (arith, stepless-depth F left, stepless-depth G right)
-stepless-depth (step a F) t = absurd (false≢true t)
+pub stepless_depth : (F : Formula) → is_stepless F ≡ true → step_depth F ≡ 0
+unfolding is_stepless
+stepless_depth (equal M N) t = omega arith
+stepless_depth (not F) t = stepless_depth F t
+stepless_depth (and F G) t =
+    let (left, right) = (and-eq-true_iff (is_stepless F) (is_stepless G)).0 t in
+    omega (arith, stepless_depth F left, stepless_depth G right)
+stepless_depth (step a F) t = absurd (false≢true t)

@@ -5,10 +5,10 @@ use Prim.Native.Nat.{ℕ}
 use native.Mathlib.Omega.{arith}
 use lib.ListN.{length}
 use Rattle.meaning.specs.Bytes.Number.{Read, found, refused}
-use Rattle.meaning.specs.Bytes.Reading.{readModel, readFormula}
+use Rattle.meaning.specs.Bytes.Reading.{read_model, read_formula}
 use Rattle.meaning.specs.Theorems.{ModelsFormed, FormulasFormed}
-use Rattle.meaning.proofs.Bytes.Reading.{modelsRead, formulasRead}
-use Rattle.meaning.proofs.Bytes.Refusal.{modelsRefused, formulasRefused}
+use Rattle.meaning.proofs.Bytes.Reading.{models_read, formulas_read}
+use Rattle.meaning.proofs.Bytes.Refusal.{models_refused, formulas_refused}
 
 -- For any exact reader of slices whose refusals are exact.
 formed : {A : Type 0} {Is : A → Type 0} {Refused : ℕ → ℕ → Type 0} (r : Read A) (size : ℕ)
@@ -27,10 +27,10 @@ formed {A} {Is} {Refused} r size exact refusals = (
     read (found a end) e none = (a, (exact a).1 end e)
     read (refused number place) e none = absurd (none number place ((refusals number place).0 e))
 
-pub modelsFormed : ModelsFormed
-modelsFormed s bytes =
-    formed (readModel s) (length s) (λ P. ((modelsRead s P).0, (modelsRead s P).1 bytes)) (modelsRefused s)
+pub models_formed : ModelsFormed
+models_formed s bytes =
+    formed (read_model s) (length s) (λ P. ((models_read s P).0, (models_read s P).1 bytes)) (models_refused s)
 
-pub formulasFormed : FormulasFormed
-formulasFormed s bytes =
-    formed (readFormula s) (length s) (λ F. ((formulasRead s F).0, (formulasRead s F).1 bytes)) (formulasRefused s)
+pub formulas_formed : FormulasFormed
+formulas_formed s bytes =
+    formed (read_formula s) (length s) (λ F. ((formulas_read s F).0, (formulas_read s F).1 bytes)) (formulas_refused s)

@@ -23,43 +23,43 @@ module _ {A : Type 0} {P : A → ℕ → Type 0} {R : ℕ → ℕ → Type 0} wh
   and-then (holds {a} {end} p) h = h a end p
   and-then (fails t) h = fails t
 
-  pub by-provided : (test : Bool) (number place : ℕ) (a : A) (end : ℕ) → (T test → P a end)
+  pub by_provided : (test : Bool) (number place : ℕ) (a : A) (end : ℕ) → (T test → P a end)
       → (T (not test) → R number place) → Answers P R (provided test number place a end)
-  by-provided true number place a end p t = holds (p tt)
-  by-provided false number place a end p t = fails (t tt)
+  by_provided true number place a end p t = holds (p tt)
+  by_provided false number place a end p t = fails (t tt)
 
   -- What is found is the answer.
-  pub as-found : {r : Read A} → Answers P R r → Answers (λ a end. r ≡ found a end) R r
-  as-found (holds p) = holds refl
-  as-found (fails t) = fails t
+  pub as_found : {r : Read A} → Answers P R r → Answers (λ a end. r ≡ found a end) R r
+  as_found (holds p) = holds refl
+  as_found (fails t) = fails t
 
   -- Where the answer is known.
   is_found : {a : A} {end : ℕ} → Answers P R (found a end) → P a end
   is_found (holds p) = p
 
-  is-refused : {number place : ℕ} → Answers P R (refused number place) → R number place
-  is-refused (fails t) = t
+  is_refused : {number place : ℕ} → Answers P R (refused number place) → R number place
+  is_refused (fails t) = t
 
-  pub of-found : {r : Read A} {a : A} {end : ℕ} → Answers P R r → r ≡ found a end → P a end
-  of-found h e = is_found (rw e at h)
+  pub of_found : {r : Read A} {a : A} {end : ℕ} → Answers P R r → r ≡ found a end → P a end
+  of_found h e = is_found (rw e at h)
 
-  pub of-refused : {r : Read A} {number place : ℕ} → Answers P R r → r ≡ refused number place → R number place
-  of-refused h e = is-refused (rw e at h)
+  pub of_refused : {r : Read A} {number place : ℕ} → Answers P R r → r ≡ refused number place → R number place
+  of_refused h e = is_refused (rw e at h)
 
-pub provided-found : {A : Type 0} (test : Bool) (number place : ℕ) (a : A) (end : ℕ)
+pub provided_found : {A : Type 0} (test : Bool) (number place : ℕ) (a : A) (end : ℕ)
     → T test → provided test number place a end ≡ found a end
-provided-found true number place a end t = refl
-provided-found false number place a end t = absurd t
+provided_found true number place a end t = refl
+provided_found false number place a end t = absurd t
 
 -- A choice by a test has a property if each side has it where it is taken.
-pub by-test : {A : Type 0} (P : A → Type 0) (test : Bool) {x y : A}
+pub by_test : {A : Type 0} (P : A → Type 0) (test : Bool) {x y : A}
     → (T test → P x) → (T (not test) → P y) → P (elim test [ true ↦ x | false ↦ y ])
-by-test P true p q = p tt
-by-test P false p q = q tt
+by_test P true p q = p tt
+by_test P false p q = q tt
 
 -- The choice by a known order.
 pub below : {A : Type 0} (m n : ℕ) (x y : A) → m < n → elim (ltb m n) [ true ↦ x | false ↦ y ] ≡ x
-below m n x y h = by-test (λ z. z ≡ x) (ltb m n) (λ t. refl) (λ t. absurd (omega (arith, nltb→le)))
+below m n x y h = by_test (λ z. z ≡ x) (ltb m n) (λ t. refl) (λ t. absurd (omega (arith, nltb→le)))
 
 pub above : {A : Type 0} (m n : ℕ) (x y : A) → n ≤ m → elim (ltb m n) [ true ↦ x | false ↦ y ] ≡ y
-above m n x y h = by-test (λ z. z ≡ y) (ltb m n) (λ t. absurd (omega (arith, ltb→lt))) (λ t. refl)
+above m n x y h = by_test (λ z. z ≡ y) (ltb m n) (λ t. absurd (omega (arith, ltb→lt))) (λ t. refl)

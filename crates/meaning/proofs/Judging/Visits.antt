@@ -8,7 +8,7 @@ use lib.ListN.{length, length-append}
 use Rattle.meaning.specs.Bytes.Formula.{Formula, equal, not, and, step}
 use Rattle.meaning.specs.Logic.Truth.{any_of}
 use Rattle.meaning.specs.Judging.Visits.{Arrival, arrivals, Visit, at, meets, visits}
-use Rattle.meaning.specs.Judging.{Judgement, visit, negated, both, someOf, judge}
+use Rattle.meaning.specs.Judging.{Judgement, visit, negated, both, some_of, judge}
 use Rattle.meaning.specs.Theorems.{VisitsCounted}
 use Rattle.meaning.proofs.Test.{any_append}
 
@@ -26,14 +26,14 @@ unfolding any_of
 visited v true e j vs h = (refl, rw e)
 visited v false e j vs h = (h.0, rw e h.1)
 
-visited-last : (b t : Bool) → ((visit b (λ _. record { truth = t; count = 1; limited = false })).count ≡ 1)
+visited_last : (b t : Bool) → ((visit b (λ _. record { truth = t; count = 1; limited = false })).count ≡ 1)
     × ((visit b (λ _. record { truth = t; count = 1; limited = false })).limited ≡ (b || false))
-visited-last true t = (refl, refl)
-visited-last false t = (refl, refl)
+visited_last true t = (refl, refl)
+visited_last false t = (refl, refl)
 
 counts_some : (F : Formula) → ((A : Arrival) → Counts (judge F A) (visits F A)) → (As : List Arrival)
-    → CountsOneMore (someOf (map (judge F) As)) (flat_map (visits F) As)
-unfolding someOf flat_map any_of
+    → CountsOneMore (some_of (map (judge F) As)) (flat_map (visits F) As)
+unfolding some_of flat_map any_of
 counts_some F each [] = (refl, refl)
 counts_some F each (A ∷ As) =
     let h = each A in
@@ -42,19 +42,19 @@ counts_some F each (A ∷ As) =
       ap₂ (λ a b. a || b) h.1 g.1 ∙ sym (any_append meets (visits F A) (flat_map (visits F) As)),
     )
 
-pub visitsCounted : VisitsCounted
+pub visits_counted : VisitsCounted
 unfolding judge visits any_of
-visitsCounted (equal M N) A = visited-last (meets (at (equal M N) A)) _
-visitsCounted (not F) A =
-    let h = visitsCounted F A in
+visits_counted (equal M N) A = visited_last (meets (at (equal M N) A)) _
+visits_counted (not F) A =
+    let h = visits_counted F A in
     visited (at (not F) A) (meets (at (not F) A)) refl (negated (judge F A)) (visits F A) (omega arith, h.1)
-visitsCounted (and F G) A =
-    let h = visitsCounted F A in
-    let g = visitsCounted G A in
+visits_counted (and F G) A =
+    let h = visits_counted F A in
+    let g = visits_counted G A in
     visited (at (and F G) A) (meets (at (and F G) A)) refl (both (judge F A) (judge G A)) (visits F A ++ visits G A) (
       omega (arith, length-append (visits F A) (visits G A)),
       ap₂ (λ a b. a || b) h.1 g.1 ∙ sym (any_append meets (visits F A) (visits G A)),
     )
-visitsCounted (step a F) A =
-    visited (at (step a F) A) (meets (at (step a F) A)) refl (someOf (map (judge F) (arrivals A.state a)))
-    (flat_map (visits F) (arrivals A.state a)) (counts_some F (visitsCounted F) (arrivals A.state a))
+visits_counted (step a F) A =
+    visited (at (step a F) A) (meets (at (step a F) A)) refl (some_of (map (judge F) (arrivals A.state a)))
+    (flat_map (visits F) (arrivals A.state a)) (counts_some F (visits_counted F) (arrivals A.state a))

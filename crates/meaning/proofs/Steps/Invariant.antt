@@ -9,12 +9,12 @@ use Rattle.meaning.specs.Bytes.Formula.{Label}
 use Rattle.meaning.specs.Places.{Every, none, ◌also◌}
 use Rattle.meaning.specs.Steps.State.{Bound, Thread, names, settle, State, start}
 use Rattle.meaning.specs.Steps.Offer.{Offer, offer, opened, placed, ThreadOffer, own, copy, ListOffer}
-use Rattle.meaning.specs.Steps.Silent.{Meeting, meeting, framed as framedMeeting, Joins, join, within, copies, ListSilent, with-left, with-right}
+use Rattle.meaning.specs.Steps.Silent.{Meeting, meeting, framed as framed_meeting, Joins, join, within, copies, ListSilent, with_left, with_right}
 use Rattle.meaning.specs.Steps.Step.{Step}
 use Rattle.meaning.specs.Steps.Invariant.{BoundStored, ThreadStored, Invariant}
 use Rattle.meaning.specs.Theorems.{InvariantHolds}
-use Rattle.meaning.proofs.Every.{every-joined, every-split}
-use Rattle.meaning.proofs.Steps.Invariant.Settling.{bound-later, threads-later, worked-below, settled-below}
+use Rattle.meaning.proofs.Every.{every_joined, every_split}
+use Rattle.meaning.proofs.Steps.Invariant.Settling.{bound_later, threads_later, worked_below, settled_below}
 pub mod Settling
 
 -- From the next name n on to the next name m: what is bound, and where x is put among threads. Whatever later number the names in
@@ -45,109 +45,109 @@ module _ {X : Type 0} {Below : ℕ → X → Type 0} {n m : ℕ} {Bounds : Type 
     bounds = w.bounds;
     keeps = λ k le x h.
         let all : n ≤ k = omega arith in
-        every-joined (every-joined (threads-later all before) (w.keeps k le x h)) (threads-later all after);
+        every_joined (every_joined (threads_later all before) (w.keeps k le x h)) (threads_later all after);
   }
 
   -- What a settled copy keeps from its next name on is kept from the name on at which it was opened.
   copied : (P : Process) {ρ : Bound} → (One (names P ρ n) (settle P ρ n) → Kept Below (names P ρ n) m Bounds f)
       → BoundStored n ρ → Kept Below n m Bounds f
   copied P kept b =
-      let s = settled-below P b in
+      let s = settled_below P b in
       let w = kept s.1 in
       record { later = omega arith; bounds = w.bounds; keeps = w.keeps }
 
 -- The same of offers and of meetings.
-offer-later : {n : ℕ} (o : Offer) → OfferBelow n o → n ≤ opened o
-offer-later (offer ρ p P f m) w = w.later
+offer_later : {n : ℕ} (o : Offer) → OfferBelow n o → n ≤ opened o
+offer_later (offer ρ p P f m) w = w.later
 
-offer-framed : {n : ℕ} (o : Offer) {l r : List Thread} → One n l → One n r → OfferBelow n o
+offer_framed : {n : ℕ} (o : Offer) {l r : List Thread} → One n l → One n r → OfferBelow n o
     → OfferBelow n (placed (λ x. l ++ x ++ r) o)
-offer-framed (offer ρ p P f m) before after w = framed before after w
+offer_framed (offer ρ p P f m) before after w = framed before after w
 
-offer-opened : {n : ℕ} (o : Offer) (P : Process) {ρ : Bound} → (One (names P ρ n) (settle P ρ n) → OfferBelow (names P ρ n) o)
+offer_opened : {n : ℕ} (o : Offer) (P : Process) {ρ : Bound} → (One (names P ρ n) (settle P ρ n) → OfferBelow (names P ρ n) o)
     → BoundStored n ρ → OfferBelow n o
-offer-opened (offer σ p Q f m) P kept b = copied P kept b
+offer_opened (offer σ p Q f m) P kept b = copied P kept b
 
-meeting-framed : {n : ℕ} (w : Meeting) {l r : List Thread} → One n l → One n r → MeetingBelow n w
-    → MeetingBelow n (framedMeeting (λ x. l ++ x ++ r) w)
-meeting-framed (meeting ρ M P σ Q f k) before after w = framed before after w
+meeting_framed : {n : ℕ} (w : Meeting) {l r : List Thread} → One n l → One n r → MeetingBelow n w
+    → MeetingBelow n (framed_meeting (λ x. l ++ x ++ r) w)
+meeting_framed (meeting ρ M P σ Q f k) before after w = framed before after w
 
-meeting-opened : {n : ℕ} (w : Meeting) (P : Process) {ρ : Bound}
+meeting_opened : {n : ℕ} (w : Meeting) (P : Process) {ρ : Bound}
     → (One (names P ρ n) (settle P ρ n) → MeetingBelow (names P ρ n) w) → BoundStored n ρ → MeetingBelow n w
-meeting-opened (meeting σ M Q τ R f k) P kept b = copied P kept b
+meeting_opened (meeting σ M Q τ R f k) P kept b = copied P kept b
 
-thread-offer : {n : ℕ} {t : Thread} {o : Offer} → ThreadOffer n t o → ThreadStored n t → OfferBelow n o
-thread-offer d =
+thread_offer : {n : ℕ} {t : Thread} {o : Offer} → ThreadOffer n t o → ThreadStored n t → OfferBelow n o
+thread_offer d =
     elim d as (λ n t o d. ThreadStored n t → OfferBelow n o) (λ n ts o d. One n ts → OfferBelow n o) [
       | own {n = n} ↦ λ b. record { later = le_refl n; bounds = b; keeps = λ k le x h. h }
-      | copy {P = P} {o = o} (d → h) ↦ λ b. offer-framed o none (b also none) (offer-opened o P h b)
-      | ListOffer.among {o = o} s (d → h) ↦ λ b. let c = every-split s b in offer-framed o c.0 c.2 (h c.1)
+      | copy {P = P} {o = o} (d → h) ↦ λ b. offer_framed o none (b also none) (offer_opened o P h b)
+      | ListOffer.among {o = o} s (d → h) ↦ λ b. let c = every_split s b in offer_framed o c.0 c.2 (h c.1)
     ]
 
-list-offer : {n : ℕ} {ts : List Thread} {o : Offer} → ListOffer n ts o → One n ts → OfferBelow n o
-list-offer (ListOffer.among {o = o} s d) b = let c = every-split s b in offer-framed o c.0 c.2 (thread-offer d c.1)
+list_offer : {n : ℕ} {ts : List Thread} {o : Offer} → ListOffer n ts o → One n ts → OfferBelow n o
+list_offer (ListOffer.among {o = o} s d) b = let c = every_split s b in offer_framed o c.0 c.2 (thread_offer d c.1)
 
 -- An offer of a copy, from the name on at which it was opened.
-copy-offer : (P : Process) {n : ℕ} {ρ : Bound} {o : Offer} → ListOffer (names P ρ n) (settle P ρ n) o → BoundStored n ρ
+copy_offer : (P : Process) {n : ℕ} {ρ : Bound} {o : Offer} → ListOffer (names P ρ n) (settle P ρ n) o → BoundStored n ρ
     → OfferBelow n o
-copy-offer P {o = o} d b = offer-opened o P (list-offer d) b
+copy_offer P {o = o} d b = offer_opened o P (list_offer d) b
 
 -- The rests of a silent step go where their offers put them, and these where `arrange` does.
-joined-below : {n : ℕ} {o i : Offer} {w : Meeting} {arrange : List Thread → List Thread → List Thread} → Joins arrange o i w
+joined_below : {n : ℕ} {o i : Offer} {w : Meeting} {arrange : List Thread → List Thread → List Thread} → Joins arrange o i w
     → OfferBelow n o → OfferBelow (opened o) i
     → ((k : ℕ) → n ≤ k → (x y : List Thread) → One k x → One k y → One k (arrange x y)) → MeetingBelow n w
-joined-below (join e) o i keeps = record {
+joined_below (join e) o i keeps = record {
   later = omega arith;
-  bounds = (bound-later i.later o.bounds, i.bounds);
+  bounds = (bound_later i.later o.bounds, i.bounds);
   keeps = λ k le x h. keeps k (omega arith) _ _ (o.keeps k (omega arith) x.0 h.0) (i.keeps k le x.1 h.1);
 }
 
-list-silent : {n : ℕ} {ts : List Thread} {w : Meeting} → ListSilent n ts w → One n ts → MeetingBelow n w
-list-silent d =
+list_silent : {n : ℕ} {ts : List Thread} {w : Meeting} → ListSilent n ts w → One n ts → MeetingBelow n w
+list_silent d =
     elim d as (λ n t w d. ThreadStored n t → MeetingBelow n w) (λ n ts w d. One n ts → MeetingBelow n w) [
-      | within {P = P} {w = w} (d → h) ↦ λ b. meeting-framed w none (b also none) (meeting-opened w P h b)
+      | within {P = P} {w = w} (d → h) ↦ λ b. meeting_framed w none (b also none) (meeting_opened w P h b)
       | copies {P = P} {o = o} d e j ↦ λ b.
-          let w = copy-offer P d b in
-          joined-below j w (copy-offer P e (bound-later (offer-later o w) b))
-          (λ k le x y h g. every-joined (every-joined h g) (bound-later le b also none))
-      | ListSilent.among {w = w} s (d → h) ↦ λ b. let c = every-split s b in meeting-framed w c.0 c.2 (h c.1)
-      | with-left {o = o} s d e j ↦ λ b.
-          let c = every-split s b in
-          let w = thread-offer d c.1 in
-          joined-below j w (list-offer e (threads-later (offer-later o w) c.0))
-          (λ k le x y h g. every-joined (every-joined g h) (threads-later le c.2))
-      | with-right {o = o} s d e j ↦ λ b.
-          let c = every-split s b in
-          let w = thread-offer d c.1 in
-          joined-below j w (list-offer e (threads-later (offer-later o w) c.2))
-          (λ k le x y h g. every-joined (every-joined (threads-later le c.0) h) g)
+          let w = copy_offer P d b in
+          joined_below j w (copy_offer P e (bound_later (offer_later o w) b))
+          (λ k le x y h g. every_joined (every_joined h g) (bound_later le b also none))
+      | ListSilent.among {w = w} s (d → h) ↦ λ b. let c = every_split s b in meeting_framed w c.0 c.2 (h c.1)
+      | with_left {o = o} s d e j ↦ λ b.
+          let c = every_split s b in
+          let w = thread_offer d c.1 in
+          joined_below j w (list_offer e (threads_later (offer_later o w) c.0))
+          (λ k le x y h g. every_joined (every_joined g h) (threads_later le c.2))
+      | with_right {o = o} s d e j ↦ λ b.
+          let c = every_split s b in
+          let w = thread_offer d c.1 in
+          joined_below j w (list_offer e (threads_later (offer_later o w) c.2))
+          (λ k le x y h g. every_joined (every_joined (threads_later le c.0) h) g)
     ]
 
-step-made : {S T : State} {a : Label} → Step S a T → Invariant S → Invariant T
-step-made (Step.output {M = M} {P = P} d e) made =
-    let o = list-offer d made.in-threads in
-    let s = settled-below P o.bounds in
+step_made : {S T : State} {a : Label} → Step S a T → Invariant S → Invariant T
+step_made (Step.output {M = M} {P = P} d e) made =
+    let o = list_offer d made.in_threads in
+    let s = settled_below P o.bounds in
     record {
-      in-threads = o.keeps _ s.0 _ s.1;
-      in-aliases = bound-later s.0 (worked-below o.bounds M (bound-later o.later made.in-aliases));
+      in_threads = o.keeps _ s.0 _ s.1;
+      in_aliases = bound_later s.0 (worked_below o.bounds M (bound_later o.later made.in_aliases));
     }
-step-made (Step.input {P = P} {N = N} d e) made =
-    let o = list-offer d made.in-threads in
-    let aliases = bound-later o.later made.in-aliases in
-    let s = settled-below P (worked-below aliases N o.bounds) in
-    record { in-threads = o.keeps _ s.0 _ s.1; in-aliases = bound-later s.0 aliases }
-step-made (Step.silent {w = meeting ρ M P σ Q f k} d) made =
-    let w = list-silent d made.in-threads in
-    let s = settled-below P w.bounds.0 in
-    let r = settled-below Q (bound-later s.0 (worked-below w.bounds.0 M w.bounds.1)) in
+step_made (Step.input {P = P} {N = N} d e) made =
+    let o = list_offer d made.in_threads in
+    let aliases = bound_later o.later made.in_aliases in
+    let s = settled_below P (worked_below aliases N o.bounds) in
+    record { in_threads = o.keeps _ s.0 _ s.1; in_aliases = bound_later s.0 aliases }
+step_made (Step.silent {w = meeting ρ M P σ Q f k} d) made =
+    let w = list_silent d made.in_threads in
+    let s = settled_below P w.bounds.0 in
+    let r = settled_below Q (bound_later s.0 (worked_below w.bounds.0 M w.bounds.1)) in
     record {
-      in-threads = w.keeps _ (omega arith) _ (threads-later r.0 s.1, r.1);
-      in-aliases = bound-later (omega arith) made.in-aliases;
+      in_threads = w.keeps _ (omega arith) _ (threads_later r.0 s.1, r.1);
+      in_aliases = bound_later (omega arith) made.in_aliases;
     }
 
-pub invariantHolds : InvariantHolds
+pub invariant_holds : InvariantHolds
 unfolding start
-invariantHolds = (
-  λ P. record { in-threads = (settled-below P none).1; in-aliases = none },
-  λ S T a d made. step-made d made,
+invariant_holds = (
+  λ P. record { in_threads = (settled_below P none).1; in_aliases = none },
+  λ S T a d made. step_made d made,
 )

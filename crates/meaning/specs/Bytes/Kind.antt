@@ -8,22 +8,22 @@ pub data TermKind : Type 0 where
   proj : Side → TermKind
   binary : Binary → TermKind
 
-abbrev pub termKinds : List TermKind
-termKinds =
+abbrev pub term_kinds : List TermKind
+term_kinds =
     TermKind.name ∷ TermKind.variable ∷ TermKind.binary pair ∷ TermKind.proj fst ∷ TermKind.proj snd
     ∷ TermKind.binary (cipher enc) ∷ TermKind.binary (cipher dec) ∷ TermKind.binary mac ∷ []
 
 pub data ProcessKind : Type 0 where
-  nil new output input if let-in par repl : ProcessKind
+  nil new output input if let_in par repl : ProcessKind
 
-abbrev pub processKinds : List ProcessKind
-processKinds =
-    ProcessKind.nil ∷ ProcessKind.new ∷ ProcessKind.output ∷ ProcessKind.input ∷ ProcessKind.if ∷ ProcessKind.let-in
+abbrev pub process_kinds : List ProcessKind
+process_kinds =
+    ProcessKind.nil ∷ ProcessKind.new ∷ ProcessKind.output ∷ ProcessKind.input ∷ ProcessKind.if ∷ ProcessKind.let_in
     ∷ ProcessKind.par ∷ ProcessKind.repl ∷ []
 
 pub data FormulaKind : Type 0 where
   equal not and output input silent : FormulaKind
 
-abbrev pub formulaKinds : List FormulaKind
-formulaKinds =
+abbrev pub formula_kinds : List FormulaKind
+formula_kinds =
     FormulaKind.equal ∷ FormulaKind.not ∷ FormulaKind.and ∷ FormulaKind.output ∷ FormulaKind.input ∷ FormulaKind.silent ∷ []

@@ -16,13 +16,13 @@ provided true number place a end = found a end
 provided false number place a end = refused number place
 
 -- The second byte of a number that has one: 0 and anything from 128 on is not in the one form.
-unfoldable pub secondByte : (size at b : ℕ) → List ℕ → Read ℕ
-secondByte size at b [] = refused 2 size
-secondByte size at b (c ∷ rest) = provided (leb 1 c && leb c 127) 3 at (b - 128 + 128 * c) (at + 2)
+unfoldable pub second_byte : (size at b : ℕ) → List ℕ → Read ℕ
+second_byte size at b [] = refused 2 size
+second_byte size at b (c ∷ rest) = provided (leb 1 c && leb c 127) 3 at (b - 128 + 128 * c) (at + 2)
 
-unfoldable pub firstByte : (size at : ℕ) → List ℕ → Read ℕ
-firstByte size at [] = refused 2 size
-firstByte size at (b ∷ rest) = elim (ltb b 128) [ true ↦ found b (at + 1) | false ↦ secondByte size at b rest ]
+unfoldable pub first_byte_of : (size at : ℕ) → List ℕ → Read ℕ
+first_byte_of size at [] = refused 2 size
+first_byte_of size at (b ∷ rest) = elim (ltb b 128) [ true ↦ found b (at + 1) | false ↦ second_byte size at b rest ]
 
 unfoldable pub number : List ℕ → ℕ → Read ℕ
-number s at = firstByte (length s) at (drop at s)
+number s at = first_byte_of (length s) at (drop at s)

@@ -6,12 +6,12 @@ pub data Prefix : Type 0 where
   output : (C M : Term) → Prefix
   input : (C : Term) → Prefix
 
--- `new`, `let-in` and an input prefix each add a variable for the process after them.
+-- `new`, `let_in` and an input prefix each add a variable for the process after them.
 pub data Process : Type 0 where
   nil : Process
   new : Process → Process
   act : Prefix → Process → Process
   if : (M N : Term) → Process → Process → Process
-  let-in : (M : Term) → Process → Process
+  let_in : (M : Term) → Process → Process
   par : Process → Process → Process
   repl : Process → Process

@@ -6,9 +6,9 @@ use Rattle.std.proofs.Math.ListN.{get_elem?}
 use Rattle.meaning.specs.Messages.Term.{Term, leaf, proj, binary, name, variable}
 use Rattle.meaning.specs.Bytes.Process.{Prefix, Process}
 use Rattle.meaning.specs.Bytes.Formula.{Label, Formula}
-use Rattle.meaning.specs.Bytes.Scope.{largestName}
+use Rattle.meaning.specs.Bytes.Scope.{largest_name}
 use Rattle.meaning.specs.Bytes.Number.{Read, found, refused, and_then, provided, number}
-use Rattle.meaning.specs.Bytes.Kind.{TermKind, termKinds, ProcessKind, processKinds, FormulaKind, formulaKinds}
+use Rattle.meaning.specs.Bytes.Kind.{TermKind, term_kinds, ProcessKind, process_kinds, FormulaKind, formula_kinds}
 
 -- The kind that a number stands for.
 abbrev pub listed : {K : Type 0} → Option K → (at end : ℕ) → Read K
@@ -28,18 +28,18 @@ abbrev pub always : {K : Type 0} → K → Bool
 always k = true
 
 -- The fields of a term, with the reader of its parts.
-unfoldable pub termFields : (ℕ → Read Term) → (scope : ℕ) → List ℕ → TermKind → ℕ → Read Term
-termFields part scope s TermKind.name at = and_then (number s at) (λ n end. provided (leb n largestName) 5 at (leaf (name n)) end)
-termFields part scope s TermKind.variable at =
+unfoldable pub term_fields : (ℕ → Read Term) → (scope : ℕ) → List ℕ → TermKind → ℕ → Read Term
+term_fields part scope s TermKind.name at = and_then (number s at) (λ n end. provided (leb n largest_name) 5 at (leaf (name n)) end)
+term_fields part scope s TermKind.variable at =
     and_then (number s at) (λ k end. provided (ltb k scope) 6 at (leaf (variable k)) end)
-termFields part scope s (TermKind.proj side) at = and_then (part at) (λ t end. found (proj side t) end)
-termFields part scope s (TermKind.binary b) at =
+term_fields part scope s (TermKind.proj side) at = and_then (part at) (λ t end. found (proj side t) end)
+term_fields part scope s (TermKind.binary b) at =
     and_then (part at) (λ t mid. and_then (part mid) (λ u end. found (binary b t u) end))
 
 unfoldable pub term : (left scope : ℕ) → List ℕ → ℕ → Read Term
-term zero scope s at = and_then (kind termKinds never s at) (λ k end. refused 7 at)
+term zero scope s at = and_then (kind term_kinds never s at) (λ k end. refused 7 at)
 term (suc left) scope s at =
-    and_then (kind termKinds always s at) (λ k end. termFields (term left scope s) scope s k end)
+    and_then (kind term_kinds always s at) (λ k end. term_fields (term left scope s) scope s k end)
 
 -- A term of at most 8 nodes on each path.
 abbrev pub field : (scope : ℕ) → List ℕ → ℕ → Read Term
@@ -52,63 +52,63 @@ room_for scope ProcessKind.new = ltb scope 12
 room_for scope ProcessKind.output = true
 room_for scope ProcessKind.input = ltb scope 12
 room_for scope ProcessKind.if = true
-room_for scope ProcessKind.let-in = ltb scope 12
+room_for scope ProcessKind.let_in = ltb scope 12
 room_for scope ProcessKind.par = true
 room_for scope ProcessKind.repl = true
 
 -- The fields of a process, with the reader of its parts by scope and position.
-unfoldable pub processFields : (ℕ → ℕ → Read Process) → (scope : ℕ) → List ℕ → ProcessKind → ℕ → Read Process
-processFields part scope s ProcessKind.nil at = found Process.nil at
-processFields part scope s ProcessKind.new at = and_then (part (suc scope) at) (λ P end. found (Process.new P) end)
-processFields part scope s ProcessKind.output at =
+unfoldable pub process_fields : (ℕ → ℕ → Read Process) → (scope : ℕ) → List ℕ → ProcessKind → ℕ → Read Process
+process_fields part scope s ProcessKind.nil at = found Process.nil at
+process_fields part scope s ProcessKind.new at = and_then (part (suc scope) at) (λ P end. found (Process.new P) end)
+process_fields part scope s ProcessKind.output at =
     and_then (field scope s at) (λ C e₁. and_then (field scope s e₁) (λ M e₂.
     and_then (part scope e₂) (λ P end. found (Process.act (Prefix.output C M) P) end)))
-processFields part scope s ProcessKind.input at =
+process_fields part scope s ProcessKind.input at =
     and_then (field scope s at) (λ C e₁. and_then (part (suc scope) e₁) (λ P end. found (Process.act (Prefix.input C) P) end))
-processFields part scope s ProcessKind.if at =
+process_fields part scope s ProcessKind.if at =
     and_then (field scope s at) (λ M e₁. and_then (field scope s e₁) (λ N e₂.
     and_then (part scope e₂) (λ P e₃. and_then (part scope e₃) (λ Q end. found (Process.if M N P Q) end))))
-processFields part scope s ProcessKind.let-in at =
-    and_then (field scope s at) (λ M e₁. and_then (part (suc scope) e₁) (λ P end. found (Process.let-in M P) end))
-processFields part scope s ProcessKind.par at =
+process_fields part scope s ProcessKind.let_in at =
+    and_then (field scope s at) (λ M e₁. and_then (part (suc scope) e₁) (λ P end. found (Process.let_in M P) end))
+process_fields part scope s ProcessKind.par at =
     and_then (part scope at) (λ P e₁. and_then (part scope e₁) (λ Q end. found (Process.par P Q) end))
-processFields part scope s ProcessKind.repl at = and_then (part scope at) (λ P end. found (Process.repl P) end)
+process_fields part scope s ProcessKind.repl at = and_then (part scope at) (λ P end. found (Process.repl P) end)
 
 unfoldable pub process : (left scope : ℕ) → List ℕ → ℕ → Read Process
-process zero scope s at = and_then (kind processKinds never s at) (λ k end. refused 7 at)
+process zero scope s at = and_then (kind process_kinds never s at) (λ k end. refused 7 at)
 process (suc left) scope s at =
-    and_then (kind processKinds (room_for scope) s at) (λ k end. processFields (λ n e. process left n s e) scope s k end)
+    and_then (kind process_kinds (room_for scope) s at) (λ k end. process_fields (λ n e. process left n s e) scope s k end)
 
 -- Whether this kind may stand with so many step formulas left on the path.
-abbrev pub stepsLeft : (steps : ℕ) → FormulaKind → Bool
-stepsLeft steps FormulaKind.equal = true
-stepsLeft steps FormulaKind.not = true
-stepsLeft steps FormulaKind.and = true
-stepsLeft steps FormulaKind.output = ltb 0 steps
-stepsLeft steps FormulaKind.input = ltb 0 steps
-stepsLeft steps FormulaKind.silent = ltb 0 steps
+abbrev pub steps_left : (steps : ℕ) → FormulaKind → Bool
+steps_left steps FormulaKind.equal = true
+steps_left steps FormulaKind.not = true
+steps_left steps FormulaKind.and = true
+steps_left steps FormulaKind.output = ltb 0 steps
+steps_left steps FormulaKind.input = ltb 0 steps
+steps_left steps FormulaKind.silent = ltb 0 steps
 
 -- The fields of a formula, with the reader of its parts by step formulas left, scope and position.
-unfoldable pub formulaFields : (ℕ → ℕ → ℕ → Read Formula) → (steps scope : ℕ) → List ℕ → FormulaKind → ℕ → Read Formula
-formulaFields part steps scope s FormulaKind.equal at =
+unfoldable pub formula_fields : (ℕ → ℕ → ℕ → Read Formula) → (steps scope : ℕ) → List ℕ → FormulaKind → ℕ → Read Formula
+formula_fields part steps scope s FormulaKind.equal at =
     and_then (field scope s at) (λ M e₁. and_then (field scope s e₁) (λ N end. found (Formula.equal M N) end))
-formulaFields part steps scope s FormulaKind.not at = and_then (part steps scope at) (λ F end. found (Formula.not F) end)
-formulaFields part steps scope s FormulaKind.and at =
+formula_fields part steps scope s FormulaKind.not at = and_then (part steps scope at) (λ F end. found (Formula.not F) end)
+formula_fields part steps scope s FormulaKind.and at =
     and_then (part steps scope at) (λ F e₁. and_then (part steps scope e₁) (λ G end. found (Formula.and F G) end))
-formulaFields part steps scope s FormulaKind.output at =
+formula_fields part steps scope s FormulaKind.output at =
     and_then (field scope s at) (λ C e₁.
     and_then (part (steps - 1) (suc scope) e₁) (λ F end. found (Formula.step (Label.output C) F) end))
-formulaFields part steps scope s FormulaKind.input at =
+formula_fields part steps scope s FormulaKind.input at =
     and_then (field scope s at) (λ C e₁. and_then (field scope s e₁) (λ M e₂.
     and_then (part (steps - 1) scope e₂) (λ F end. found (Formula.step (Label.input C M) F) end)))
-formulaFields part steps scope s FormulaKind.silent at =
+formula_fields part steps scope s FormulaKind.silent at =
     and_then (part (steps - 1) scope at) (λ F end. found (Formula.step Label.silent F) end)
 
 unfoldable pub formula : (left steps scope : ℕ) → List ℕ → ℕ → Read Formula
-formula zero steps scope s at = and_then (kind formulaKinds never s at) (λ k end. refused 7 at)
+formula zero steps scope s at = and_then (kind formula_kinds never s at) (λ k end. refused 7 at)
 formula (suc left) steps scope s at =
-    and_then (kind formulaKinds (stepsLeft steps) s at)
-    (λ k end. formulaFields (λ m n e. formula left m n s e) steps scope s k end)
+    and_then (kind formula_kinds (steps_left steps) s at)
+    (λ k end. formula_fields (λ m n e. formula left m n s e) steps scope s k end)
 
 -- A whole slice: 1 before any of its bytes, 8 after the last that is read.
 unfoldable pub whole : {A : Type 0} → (ℕ → Read A) → List ℕ → Read A
@@ -116,8 +116,8 @@ whole reader s =
     elim (ltb 4096 (length s))
     [ true ↦ refused 1 4096 | false ↦ and_then (reader 0) (λ a end. provided (leb (length s) end) 8 end a end) ]
 
-unfoldable pub readModel : List ℕ → Read Process
-readModel s = whole (process 64 0 s) s
+unfoldable pub read_model : List ℕ → Read Process
+read_model s = whole (process 64 0 s) s
 
-unfoldable pub readFormula : List ℕ → Read Formula
-readFormula s = whole (formula 48 16 0 s) s
+unfoldable pub read_formula : List ℕ → Read Formula
+read_formula s = whole (formula 48 16 0 s) s

@@ -3,8 +3,8 @@
 use Rattle.std.specs.Prelude.{◌≡◌, ℕ, suc, ◌≤◌, ◌<◌, ◌-◌, List, [], ◌∷◌, ◌++◌, length, drop}
 use Rattle.std.proofs.Math.ListN.{get_elem?}
 use Rattle.std.proofs.Math.Option.{some}
-use Rattle.meaning.specs.Bytes.Scope.{largestName}
-use Rattle.meaning.specs.Bytes.Kind.{TermKind, termKinds, ProcessKind, processKinds, FormulaKind, formulaKinds}
+use Rattle.meaning.specs.Bytes.Scope.{largest_name}
+use Rattle.meaning.specs.Bytes.Kind.{TermKind, term_kinds, ProcessKind, process_kinds, FormulaKind, formula_kinds}
 use Rattle.meaning.specs.Bytes.Number.{found, number}
 
 -- A field, with what is left of its nesting limits on this path and how many variables or aliases are in scope.
@@ -16,35 +16,35 @@ pub data Field : Type 0 where
   formula : (left steps scope : ℕ) → Field
 
 -- The fields of each kind.
-abbrev pub termFields : (left scope : ℕ) → TermKind → List Field
-termFields left scope TermKind.name = name ∷ []
-termFields left scope TermKind.variable = index scope ∷ []
-termFields left scope (TermKind.proj side) = term left scope ∷ []
-termFields left scope (TermKind.binary b) = term left scope ∷ term left scope ∷ []
+abbrev pub term_fields : (left scope : ℕ) → TermKind → List Field
+term_fields left scope TermKind.name = name ∷ []
+term_fields left scope TermKind.variable = index scope ∷ []
+term_fields left scope (TermKind.proj side) = term left scope ∷ []
+term_fields left scope (TermKind.binary b) = term left scope ∷ term left scope ∷ []
 
-abbrev pub processFields : (left scope : ℕ) → ProcessKind → List Field
-processFields left scope ProcessKind.nil = []
-processFields left scope ProcessKind.new = process left (suc scope) ∷ []
-processFields left scope ProcessKind.output = term 8 scope ∷ term 8 scope ∷ process left scope ∷ []
-processFields left scope ProcessKind.input = term 8 scope ∷ process left (suc scope) ∷ []
-processFields left scope ProcessKind.if = term 8 scope ∷ term 8 scope ∷ process left scope ∷ process left scope ∷ []
-processFields left scope ProcessKind.let-in = term 8 scope ∷ process left (suc scope) ∷ []
-processFields left scope ProcessKind.par = process left scope ∷ process left scope ∷ []
-processFields left scope ProcessKind.repl = process left scope ∷ []
+abbrev pub process_fields : (left scope : ℕ) → ProcessKind → List Field
+process_fields left scope ProcessKind.nil = []
+process_fields left scope ProcessKind.new = process left (suc scope) ∷ []
+process_fields left scope ProcessKind.output = term 8 scope ∷ term 8 scope ∷ process left scope ∷ []
+process_fields left scope ProcessKind.input = term 8 scope ∷ process left (suc scope) ∷ []
+process_fields left scope ProcessKind.if = term 8 scope ∷ term 8 scope ∷ process left scope ∷ process left scope ∷ []
+process_fields left scope ProcessKind.let_in = term 8 scope ∷ process left (suc scope) ∷ []
+process_fields left scope ProcessKind.par = process left scope ∷ process left scope ∷ []
+process_fields left scope ProcessKind.repl = process left scope ∷ []
 
-abbrev pub formulaFields : (left steps scope : ℕ) → FormulaKind → List Field
-formulaFields left steps scope FormulaKind.equal = term 8 scope ∷ term 8 scope ∷ []
-formulaFields left steps scope FormulaKind.not = formula left steps scope ∷ []
-formulaFields left steps scope FormulaKind.and = formula left steps scope ∷ formula left steps scope ∷ []
-formulaFields left steps scope FormulaKind.output = term 8 scope ∷ formula left (steps - 1) (suc scope) ∷ []
-formulaFields left steps scope FormulaKind.input = term 8 scope ∷ term 8 scope ∷ formula left (steps - 1) scope ∷ []
-formulaFields left steps scope FormulaKind.silent = formula left (steps - 1) scope ∷ []
+abbrev pub formula_fields : (left steps scope : ℕ) → FormulaKind → List Field
+formula_fields left steps scope FormulaKind.equal = term 8 scope ∷ term 8 scope ∷ []
+formula_fields left steps scope FormulaKind.not = formula left steps scope ∷ []
+formula_fields left steps scope FormulaKind.and = formula left steps scope ∷ formula left steps scope ∷ []
+formula_fields left steps scope FormulaKind.output = term 8 scope ∷ formula left (steps - 1) (suc scope) ∷ []
+formula_fields left steps scope FormulaKind.input = term 8 scope ∷ term 8 scope ∷ formula left (steps - 1) scope ∷ []
+formula_fields left steps scope FormulaKind.silent = formula left (steps - 1) scope ∷ []
 
 -- Kinds that bind a variable, and kinds that are step formulas.
 pub data Binder : ProcessKind → Type 0 where
   new : Binder ProcessKind.new
   input : Binder ProcessKind.input
-  let-in : Binder ProcessKind.let-in
+  let_in : Binder ProcessKind.let_in
 
 pub data StepKind : FormulaKind → Type 0 where
   output : StepKind FormulaKind.output
@@ -54,17 +54,17 @@ pub data StepKind : FormulaKind → Type 0 where
 -- The fields that are due at a position, once all before it has been gone through.
 pub data Due (s : List ℕ) (root : Field) : ℕ → List Field → Type 0 where
   start : length s ≤ 4096 → Due s root 0 (root ∷ [])
-  named : {p n e : ℕ} {fs : List Field} → Due s root p (name ∷ fs) → number s p ≡ found n e → n ≤ largestName → Due s root e fs
+  named : {p n e : ℕ} {fs : List Field} → Due s root p (name ∷ fs) → number s p ≡ found n e → n ≤ largest_name → Due s root e fs
   indexed : {p k e scope : ℕ} {fs : List Field} → Due s root p (index scope ∷ fs) → number s p ≡ found k e → k < scope → Due s root e fs
-  in-term : {p n e left scope : ℕ} {k : TermKind} {fs : List Field}
-      → Due s root p (term (suc left) scope ∷ fs) → number s p ≡ found n e → get_elem? termKinds n ≡ some k
-      → Due s root e (termFields left scope k ++ fs)
-  in-process : {p n e left scope : ℕ} {k : ProcessKind} {fs : List Field}
-      → Due s root p (process (suc left) scope ∷ fs) → number s p ≡ found n e → get_elem? processKinds n ≡ some k
-      → (Binder k → scope < 12) → Due s root e (processFields left scope k ++ fs)
-  in-formula : {p n e left steps scope : ℕ} {k : FormulaKind} {fs : List Field}
-      → Due s root p (formula (suc left) steps scope ∷ fs) → number s p ≡ found n e → get_elem? formulaKinds n ≡ some k
-      → (StepKind k → 0 < steps) → Due s root e (formulaFields left steps scope k ++ fs)
+  in_term : {p n e left scope : ℕ} {k : TermKind} {fs : List Field}
+      → Due s root p (term (suc left) scope ∷ fs) → number s p ≡ found n e → get_elem? term_kinds n ≡ some k
+      → Due s root e (term_fields left scope k ++ fs)
+  in_process : {p n e left scope : ℕ} {k : ProcessKind} {fs : List Field}
+      → Due s root p (process (suc left) scope ∷ fs) → number s p ≡ found n e → get_elem? process_kinds n ≡ some k
+      → (Binder k → scope < 12) → Due s root e (process_fields left scope k ++ fs)
+  in_formula : {p n e left steps scope : ℕ} {k : FormulaKind} {fs : List Field}
+      → Due s root p (formula (suc left) steps scope ∷ fs) → number s p ≡ found n e → get_elem? formula_kinds n ≡ some k
+      → (StepKind k → 0 < steps) → Due s root e (formula_fields left steps scope k ++ fs)
 
 -- A number of which the first byte, or the second that it asks for, is missing.
 pub data EndsEarly : List ℕ → Type 0 where
@@ -73,8 +73,8 @@ pub data EndsEarly : List ℕ → Type 0 where
 
 -- A second byte that is not 1 to 127.
 pub data Malformed : List ℕ → Type 0 where
-  second-zero : {b : ℕ} {rest : List ℕ} → 128 ≤ b → Malformed (b ∷ 0 ∷ rest)
-  second-over : {b c : ℕ} {rest : List ℕ} → 128 ≤ b → 128 ≤ c → Malformed (b ∷ c ∷ rest)
+  second_zero : {b : ℕ} {rest : List ℕ} → 128 ≤ b → Malformed (b ∷ 0 ∷ rest)
+  second_over : {b c : ℕ} {rest : List ℕ} → 128 ≤ b → 128 ≤ c → Malformed (b ∷ c ∷ rest)
 
 -- Numbers that stand for no kind of the field.
 abbrev pub Unlisted : Field → ℕ → Type 0
@@ -89,16 +89,16 @@ pub data TooDeep : Field → ℕ → Type 0 where
   term-node : {scope n : ℕ} → n < 8 → TooDeep (term 0 scope) n
   process-node : {scope n : ℕ} → n < 8 → TooDeep (process 0 scope) n
   formula-node : {steps scope n : ℕ} → n < 6 → TooDeep (formula 0 steps scope) n
-  variable : {left scope n : ℕ} {k : ProcessKind} → get_elem? processKinds n ≡ some k → Binder k → 12 ≤ scope → TooDeep (process (suc left) scope) n
-  step : {left scope n : ℕ} {k : FormulaKind} → get_elem? formulaKinds n ≡ some k → StepKind k → TooDeep (formula (suc left) 0 scope) n
+  variable : {left scope n : ℕ} {k : ProcessKind} → get_elem? process_kinds n ≡ some k → Binder k → 12 ≤ scope → TooDeep (process (suc left) scope) n
+  step : {left scope n : ℕ} {k : FormulaKind} → get_elem? formula_kinds n ≡ some k → StepKind k → TooDeep (formula (suc left) 0 scope) n
 
 -- The refusals, by number and place. No bytes meet 5 (`NeverNameRange`).
 pub data Refusal (s : List ℕ) (root : Field) : (number place : ℕ) → Type 0 where
-  slice-too-long : 4096 < length s → Refusal s root 1 4096
-  ended-early : {p : ℕ} {f : Field} {fs : List Field} → Due s root p (f ∷ fs) → EndsEarly (drop p s) → Refusal s root 2 (length s)
-  bad-form : {p : ℕ} {f : Field} {fs : List Field} → Due s root p (f ∷ fs) → Malformed (drop p s) → Refusal s root 3 p
-  unlisted-kind : {p k e : ℕ} {f : Field} {fs : List Field} → Due s root p (f ∷ fs) → number s p ≡ found k e → Unlisted f k → Refusal s root 4 p
-  name-over : {p n e : ℕ} {fs : List Field} → Due s root p (name ∷ fs) → number s p ≡ found n e → largestName < n → Refusal s root 5 p
-  out-of-scope : {p k e scope : ℕ} {fs : List Field} → Due s root p (index scope ∷ fs) → number s p ≡ found k e → scope ≤ k → Refusal s root 6 p
-  too-deep : {p k e : ℕ} {f : Field} {fs : List Field} → Due s root p (f ∷ fs) → number s p ≡ found k e → TooDeep f k → Refusal s root 7 p
+  slice_too_long : 4096 < length s → Refusal s root 1 4096
+  ended_early : {p : ℕ} {f : Field} {fs : List Field} → Due s root p (f ∷ fs) → EndsEarly (drop p s) → Refusal s root 2 (length s)
+  bad_form : {p : ℕ} {f : Field} {fs : List Field} → Due s root p (f ∷ fs) → Malformed (drop p s) → Refusal s root 3 p
+  unlisted_kind : {p k e : ℕ} {f : Field} {fs : List Field} → Due s root p (f ∷ fs) → number s p ≡ found k e → Unlisted f k → Refusal s root 4 p
+  name_over : {p n e : ℕ} {fs : List Field} → Due s root p (name ∷ fs) → number s p ≡ found n e → largest_name < n → Refusal s root 5 p
+  out_of_scope : {p k e scope : ℕ} {fs : List Field} → Due s root p (index scope ∷ fs) → number s p ≡ found k e → scope ≤ k → Refusal s root 6 p
+  too_deep : {p k e : ℕ} {f : Field} {fs : List Field} → Due s root p (f ∷ fs) → number s p ≡ found k e → TooDeep f k → Refusal s root 7 p
   left_over : {p : ℕ} → Due s root p [] → p < length s → Refusal s root 8 p

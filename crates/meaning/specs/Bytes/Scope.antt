@@ -1,16 +1,16 @@
 -- Which names, variables and aliases a term, a process or a formula may have ("Bytes").
 use Rattle.std.specs.Prelude.{ℕ, suc, ◌+◌, ◌≤◌, ◌<◌}
 use Rattle.meaning.specs.Messages.Term.{Term, Leaf, leaf, proj, binary, name, variable}
-use Rattle.meaning.specs.Bytes.Process.{Prefix, Process, nil, new, act, if, let-in, par, repl}
+use Rattle.meaning.specs.Bytes.Process.{Prefix, Process, nil, new, act, if, let_in, par, repl}
 use Rattle.meaning.specs.Bytes.Formula.{Label, Formula}
 
 -- Public names run from 0 to this one, the largest number that two bytes hold.
-abbrev pub largestName : ℕ
-largestName = 16383
+abbrev pub largest_name : ℕ
+largest_name = 16383
 
 -- Of the variables or aliases, those below n are in scope.
 abbrev pub LeafScoped : ℕ → Leaf → Type 0
-LeafScoped n (name a) = a ≤ largestName
+LeafScoped n (name a) = a ≤ largest_name
 LeafScoped n (variable k) = k < n
 
 abbrev pub TermScoped : ℕ → Term → Type 0
@@ -19,9 +19,9 @@ TermScoped n (proj s t) = TermScoped n t
 TermScoped n (binary b t u) = TermScoped n t × TermScoped n u
 
 -- The variables that a prefix binds in what follows it.
-abbrev pub bindsPrefix : Prefix → ℕ
-bindsPrefix (Prefix.output C M) = 0
-bindsPrefix (Prefix.input C) = 1
+abbrev pub binds_prefix : Prefix → ℕ
+binds_prefix (Prefix.output C M) = 0
+binds_prefix (Prefix.input C) = 1
 
 abbrev pub PrefixScoped : ℕ → Prefix → Type 0
 PrefixScoped n (Prefix.output C M) = TermScoped n C × TermScoped n M
@@ -30,17 +30,17 @@ PrefixScoped n (Prefix.input C) = TermScoped n C
 abbrev pub ProcessScoped : ℕ → Process → Type 0
 ProcessScoped n nil = Unit {0}
 ProcessScoped n (new P) = ProcessScoped (suc n) P
-ProcessScoped n (act p P) = PrefixScoped n p × ProcessScoped (bindsPrefix p + n) P
+ProcessScoped n (act p P) = PrefixScoped n p × ProcessScoped (binds_prefix p + n) P
 ProcessScoped n (if M N P Q) = TermScoped n M × TermScoped n N × ProcessScoped n P × ProcessScoped n Q
-ProcessScoped n (let-in M P) = TermScoped n M × ProcessScoped (suc n) P
+ProcessScoped n (let_in M P) = TermScoped n M × ProcessScoped (suc n) P
 ProcessScoped n (par P Q) = ProcessScoped n P × ProcessScoped n Q
 ProcessScoped n (repl P) = ProcessScoped n P
 
 -- The aliases that a step adds for the formula that follows it.
-abbrev pub bindsLabel : Label → ℕ
-bindsLabel (Label.output C) = 1
-bindsLabel (Label.input C M) = 0
-bindsLabel Label.silent = 0
+abbrev pub binds_label : Label → ℕ
+binds_label (Label.output C) = 1
+binds_label (Label.input C M) = 0
+binds_label Label.silent = 0
 
 abbrev pub LabelScoped : ℕ → Label → Type 0
 LabelScoped n (Label.output C) = TermScoped n C
@@ -51,4 +51,4 @@ abbrev pub FormulaScoped : ℕ → Formula → Type 0
 FormulaScoped n (Formula.equal M N) = TermScoped n M × TermScoped n N
 FormulaScoped n (Formula.not F) = FormulaScoped n F
 FormulaScoped n (Formula.and F G) = FormulaScoped n F × FormulaScoped n G
-FormulaScoped n (Formula.step a F) = LabelScoped n a × FormulaScoped (bindsLabel a + n) F
+FormulaScoped n (Formula.step a F) = LabelScoped n a × FormulaScoped (binds_label a + n) F

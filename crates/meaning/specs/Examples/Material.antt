@@ -1,9 +1,9 @@
 -- What the worked examples are made of.
 use Rattle.std.specs.Prelude.{List, [], ◌∷◌, ℕ, zero, suc}
 use Rattle.meaning.specs.Messages.Term.{Term, Message, leaf, proj, binary, fst, pair, mac, name, variable, public}
-use Rattle.meaning.specs.Bytes.Process.{Prefix, Process, nil, new, act, let-in, par}
+use Rattle.meaning.specs.Bytes.Process.{Prefix, Process, nil, new, act, let_in, par}
 use Rattle.meaning.specs.Bytes.Formula.{Label, Formula}
-use Rattle.meaning.specs.Bytes.Encoding.{encodeProcess, encodeFormula}
+use Rattle.meaning.specs.Bytes.Encoding.{encode_process, encode_formula}
 use Rattle.meaning.specs.Examples.Entry.{Entry, answered}
 
 -- The work buffer and the budget of the program `finding`.
@@ -64,22 +64,22 @@ twice t = binary pair t t
 
 abbrev pub large : Process → Process
 large P =
-    let-in (twice c)
-    (let-in (twice (x 0))
-    (let-in (twice (x 1)) (let-in (twice (x 2)) (let-in (twice (x 3)) (let-in (twice (x 4)) (let-in (twice (x 5)) P))))))
+    let_in (twice c)
+    (let_in (twice (x 0))
+    (let_in (twice (x 1)) (let_in (twice (x 2)) (let_in (twice (x 3)) (let_in (twice (x 4)) (let_in (twice (x 5)) P))))))
 
 -- There, a term of 256 nodes of which no part is over 255; one with a part of 257 that itself has 255; processes that work it.
 abbrev pub over : Term
 over = proj fst (binary mac (x 5) (x 5))
 
-abbrev pub partOver : Term
-partOver = proj fst (binary pair (x 6) c)
+abbrev pub part_over : Term
+part_over = proj fst (binary pair (x 6) c)
 
-abbrev pub goesOver : Process
-goesOver = let-in over nil
+abbrev pub goes_over : Process
+goes_over = let_in over nil
 
-abbrev pub thenOver : Process
-thenOver = large (out c goesOver)
+abbrev pub then_over : Process
+then_over = large (out c goes_over)
 
 -- Models and formulas in bytes: nil, an output, "no output on name 0".
 abbrev pub idle : List ℕ
@@ -88,26 +88,26 @@ idle = 0 ∷ []
 abbrev pub output : List ℕ
 output = 2 ∷ 0 ∷ 0 ∷ 0 ∷ 0 ∷ 0 ∷ []
 
-abbrev pub noOutput : List ℕ
-noOutput = 1 ∷ 3 ∷ 0 ∷ 0 ∷ 0 ∷ 0 ∷ 0 ∷ 0 ∷ 0 ∷ []
+abbrev pub no_output_formula : List ℕ
+no_output_formula = 1 ∷ 3 ∷ 0 ∷ 0 ∷ 0 ∷ 0 ∷ 0 ∷ 0 ∷ 0 ∷ []
 
 -- A formula that is true everywhere, and step formulas on name 0.
 abbrev pub valid : Formula
 valid = Formula.equal c c
 
-abbrev pub onOutput : Formula → Formula
-onOutput F = Formula.step (Label.output c) F
+abbrev pub on_output : Formula → Formula
+on_output F = Formula.step (Label.output c) F
 
-abbrev pub onInput : Term → Formula → Formula
-onInput t F = Formula.step (Label.input c t) F
+abbrev pub on_input : Term → Formula → Formula
+on_input t F = Formula.step (Label.input c t) F
 
-abbrev pub onSilent : Formula → Formula
-onSilent F = Formula.step Label.silent F
+abbrev pub on_silent : Formula → Formula
+on_silent F = Formula.step Label.silent F
 
 -- A process and the ideal that does nothing, told apart or not by a formula.
-abbrev pub judgedOn : Process → Formula → (result count : ℕ) → Entry
-judgedOn P F result count = answered (encodeProcess P) idle (encodeFormula F) work budget result 0 0 count
+abbrev pub judged_on : Process → Formula → (result count : ℕ) → Entry
+judged_on P F result count = answered (encode_process P) idle (encode_formula F) work budget result 0 0 count
 
 -- A first model that is refused.
-abbrev pub refusedAs : List ℕ → (result place : ℕ) → Entry
-refusedAs s result place = answered s idle noOutput work budget result 1 place 0
+abbrev pub refused_as : List ℕ → (result place : ℕ) → Entry
+refused_as s result place = answered s idle no_output_formula work budget result 1 place 0

@@ -5,41 +5,41 @@ use Rattle.meaning.specs.Messages.Term.{Term, leaf, name, public}
 use Rattle.meaning.specs.Bytes.Process.{Prefix, Process, nil, act, par}
 use Rattle.meaning.specs.Bytes.Formula.{Label, Formula}
 use Rattle.meaning.specs.Examples.Entry.{Entry, numbered, different, reaching}
-use Rattle.meaning.specs.Examples.Material.{c, x, out, valid, onOutput, judgedOn, refusedAs}
+use Rattle.meaning.specs.Examples.Material.{c, x, out, valid, on_output, judged_on, refused_as}
 
 abbrev n : ℕ → Term
 n k = leaf (name k)
 
 -- An output and an input on a name, and the formula that there is such an output.
-abbrev outOn : ℕ → Process
-outOn k = act (Prefix.output (n k) c) nil
+abbrev out_on : ℕ → Process
+out_on k = act (Prefix.output (n k) c) nil
 
-abbrev inOn : ℕ → Process
-inOn k = act (Prefix.input (n k)) nil
+abbrev in_on : ℕ → Process
+in_on k = act (Prefix.input (n k)) nil
 
-abbrev outputOn : ℕ → Formula
-outputOn k = Formula.step (Label.output (n k)) valid
+abbrev output_on : ℕ → Formula
+output_on k = Formula.step (Label.output (n k)) valid
 
 abbrev pub names : List Entry
 names =
     -- The largest name; the number after it would have three bytes, and is in no form.
     numbered (0xFF ∷ 0x7F ∷ []) 16383 2
-    ∷ judgedOn (outOn 16383) (outputOn 16383) 0 3
-    ∷ judgedOn (outOn 16383) (outputOn 16382) 12 2
-    ∷ refusedAs (2 ∷ 0 ∷ 0x80 ∷ 0x80 ∷ 0x01 ∷ 0 ∷ 0 ∷ 0 ∷ []) 3 2
+    ∷ judged_on (out_on 16383) (output_on 16383) 0 3
+    ∷ judged_on (out_on 16383) (output_on 16382) 12 2
+    ∷ refused_as (2 ∷ 0 ∷ 0x80 ∷ 0x80 ∷ 0x01 ∷ 0 ∷ 0 ∷ 0 ∷ []) 3 2
     -- 256 is 80 02 and 384 is 80 03. As messages.
     ∷ different (leaf (public 256)) (leaf (public 384))
     ∷ different (leaf (public 256)) (leaf (public 0))
     -- As channels, of visible and of silent steps.
-    ∷ judgedOn (outOn 256) (outputOn 256) 0 3
-    ∷ judgedOn (outOn 256) (outputOn 384) 12 2
-    ∷ judgedOn (outOn 256) (outputOn 0) 12 2
-    ∷ reaching (par (outOn 256) (inOn 256)) Label.silent (0 ∷ [])
-    ∷ reaching (par (outOn 256) (inOn 384)) Label.silent []
+    ∷ judged_on (out_on 256) (output_on 256) 0 3
+    ∷ judged_on (out_on 256) (output_on 384) 12 2
+    ∷ judged_on (out_on 256) (output_on 0) 12 2
+    ∷ reaching (par (out_on 256) (in_on 256)) Label.silent (0 ∷ [])
+    ∷ reaching (par (out_on 256) (in_on 384)) Label.silent []
     -- In messages, against recipes.
-    ∷ judgedOn (out (n 256) nil) (onOutput (Formula.equal (x 0) (n 256))) 0 3
-    ∷ judgedOn (out (n 256) nil) (onOutput (Formula.equal (x 0) (n 384))) 12 3
-    ∷ judgedOn (out (n 256) nil) (onOutput (Formula.equal (x 0) (n 0))) 12 3
-    ∷ judgedOn (out (n 16383) nil) (onOutput (Formula.equal (x 0) (n 16383))) 0 3
-    ∷ judgedOn (out (n 16383) nil) (onOutput (Formula.equal (x 0) (n 255))) 12 3
+    ∷ judged_on (out (n 256) nil) (on_output (Formula.equal (x 0) (n 256))) 0 3
+    ∷ judged_on (out (n 256) nil) (on_output (Formula.equal (x 0) (n 384))) 12 3
+    ∷ judged_on (out (n 256) nil) (on_output (Formula.equal (x 0) (n 0))) 12 3
+    ∷ judged_on (out (n 16383) nil) (on_output (Formula.equal (x 0) (n 16383))) 0 3
+    ∷ judged_on (out (n 16383) nil) (on_output (Formula.equal (x 0) (n 255))) 12 3
     ∷ []

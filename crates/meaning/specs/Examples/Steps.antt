@@ -3,10 +3,10 @@ use Rattle.std.specs.Prelude.{List, [], ◌∷◌}
 use Rattle.meaning.specs.Messages.Term.{leaf, private}
 use Rattle.meaning.specs.Bytes.Process.{Prefix, nil, new, act, par, repl}
 use Rattle.meaning.specs.Bytes.Formula.{Label, Formula}
-use Rattle.meaning.specs.Bytes.Encoding.{encodeFormula}
+use Rattle.meaning.specs.Bytes.Encoding.{encode_formula}
 use Rattle.meaning.specs.Steps.State.{Thread}
 use Rattle.meaning.specs.Examples.Entry.{Entry, answered, reaching, leading}
-use Rattle.meaning.specs.Examples.Material.{work, budget, a, c, d, x, out, inp, sends, takes, idle, valid, onOutput, onInput, onSilent, judgedOn}
+use Rattle.meaning.specs.Examples.Material.{work, budget, a, c, d, x, out, inp, sends, takes, idle, valid, on_output, on_input, on_silent, judged_on}
 
 abbrev pub steps : List Entry
 steps =
@@ -34,19 +34,19 @@ steps =
       next = 1;
     } ∷ [])
     -- A repl thread stays after a step of each sort, with the rest of its copies.
-    ∷ judgedOn (repl (par sends takes)) (onSilent (onSilent valid)) 0 11
-    ∷ judgedOn (repl (par sends (inp sends))) (onSilent (onOutput valid)) 0 9
-    ∷ judgedOn (repl (out c takes)) (onOutput (onSilent valid)) 0 4
+    ∷ judged_on (repl (par sends takes)) (on_silent (on_silent valid)) 0 11
+    ∷ judged_on (repl (par sends (inp sends))) (on_silent (on_output valid)) 0 9
+    ∷ judged_on (repl (out c takes)) (on_output (on_silent valid)) 0 4
     -- Private names differ from public ones and from each other.
-    ∷ judgedOn (new (out (x 0) nil)) (onOutput (Formula.not (Formula.equal (x 0) c))) 0 4
-    ∷ judgedOn (par (new (out (x 0) nil)) (new (out (x 0) nil))) (onOutput (onOutput (Formula.equal (x 0) (x 1)))) 12 6
-    ∷ judgedOn (repl (new (out (x 0) nil))) (onOutput (onOutput (Formula.not (Formula.equal (x 0) (x 1))))) 0 5
+    ∷ judged_on (new (out (x 0) nil)) (on_output (Formula.not (Formula.equal (x 0) c))) 0 4
+    ∷ judged_on (par (new (out (x 0) nil)) (new (out (x 0) nil))) (on_output (on_output (Formula.equal (x 0) (x 1)))) 12 6
+    ∷ judged_on (repl (new (out (x 0) nil))) (on_output (on_output (Formula.not (Formula.equal (x 0) (x 1))))) 0 5
     -- An alias is the message sent; an input binds the message of its label, or of the output that it meets.
-    ∷ judgedOn (out d nil) (onOutput (Formula.equal (x 0) d)) 0 3
-    ∷ judgedOn (inp (out (x 0) nil)) (onInput d (onOutput (Formula.equal (x 0) d))) 0 4
-    ∷ judgedOn (out d (inp (out (x 0) nil))) (onOutput (onInput (x 0) (onOutput (Formula.equal (x 0) (x 1))))) 0 5
-    ∷ judgedOn (new (par (out d nil) (inp (out (x 1) nil)))) (onSilent (onOutput (Formula.equal (x 0) d))) 0 4
-    ∷ judgedOn (par (new (out (x 0) nil)) (inp (out (x 0) nil))) (onSilent (onOutput (Formula.not (Formula.equal (x 0) c)))) 0 5
+    ∷ judged_on (out d nil) (on_output (Formula.equal (x 0) d)) 0 3
+    ∷ judged_on (inp (out (x 0) nil)) (on_input d (on_output (Formula.equal (x 0) d))) 0 4
+    ∷ judged_on (out d (inp (out (x 0) nil))) (on_output (on_input (x 0) (on_output (Formula.equal (x 0) (x 1))))) 0 5
+    ∷ judged_on (new (par (out d nil) (inp (out (x 1) nil)))) (on_silent (on_output (Formula.equal (x 0) d))) 0 4
+    ∷ judged_on (par (new (out (x 0) nil)) (inp (out (x 0) nil))) (on_silent (on_output (Formula.not (Formula.equal (x 0) c)))) 0 5
     -- An input step under "not" that finds nothing is judged.
-    ∷ answered idle (3 ∷ 0 ∷ 0 ∷ 0 ∷ []) (encodeFormula (Formula.not (onInput c valid))) work budget 0 0 0 5
+    ∷ answered idle (3 ∷ 0 ∷ 0 ∷ 0 ∷ []) (encode_formula (Formula.not (on_input c valid))) work budget 0 0 0 5
     ∷ []

@@ -9,9 +9,9 @@ use Rattle.meaning.specs.Places.{Every}
 use Rattle.meaning.specs.Steps.State.{◌▸◌, worked, names, State, start}
 use Rattle.meaning.specs.Steps.Offer.{Offer, offer}
 use Rattle.meaning.specs.Steps.Silent.{Meeting, meeting}
-use Rattle.meaning.specs.Steps.Step.{afterSilent}
+use Rattle.meaning.specs.Steps.Step.{after_silent}
 use Rattle.meaning.specs.Steps.Enumeration.{offers, silents, sent, taken}
-use Rattle.meaning.specs.Judging.Limits.{overSettling, overState, overRecipes}
+use Rattle.meaning.specs.Judging.Limits.{over_settling, over_state, over_recipes}
 
 -- A state as it is reached, and whether settling it met the limit of 255 nodes.
 pub record Arrival : Type 0 where
@@ -21,25 +21,25 @@ pub record Arrival : Type 0 where
 abbrev pub arrived : Bool → State → Arrival
 arrived large S = record { state = S; large = large }
 
-abbrev pub startArrival : Process → Arrival
-startArrival P = arrived (overSettling P [] 0) (start P)
+abbrev pub start_arrival : Process → Arrival
+start_arrival P = arrived (over_settling P [] 0) (start P)
 
 -- The steps of the enumeration, as arrivals.
-abbrev pub sentArrivals : State → Recipe → Offer → List Arrival
-sentArrivals S R (offer ρ p P f m) = map (arrived (overSettling P ρ m)) (sent S R (offer ρ p P f m))
+abbrev pub sent_arrivals : State → Recipe → Offer → List Arrival
+sent_arrivals S R (offer ρ p P f m) = map (arrived (over_settling P ρ m)) (sent S R (offer ρ p P f m))
 
-abbrev pub takenArrivals : State → (R N : Recipe) → Offer → List Arrival
-takenArrivals S R N (offer ρ p P f m) =
-    map (arrived (overSettling P (ρ ▸ worked S.aliases N) m)) (taken S R N (offer ρ p P f m))
+abbrev pub taken_arrivals : State → (R N : Recipe) → Offer → List Arrival
+taken_arrivals S R N (offer ρ p P f m) =
+    map (arrived (over_settling P (ρ ▸ worked S.aliases N) m)) (taken S R N (offer ρ p P f m))
 
-abbrev pub metArrival : State → Meeting → Arrival
-metArrival S (meeting ρ M P σ Q f k) =
-    arrived (overSettling P ρ k || overSettling Q (σ ▸ worked ρ M) (names P ρ k)) (afterSilent S (meeting ρ M P σ Q f k))
+abbrev pub met_arrival : State → Meeting → Arrival
+met_arrival S (meeting ρ M P σ Q f k) =
+    arrived (over_settling P ρ k || over_settling Q (σ ▸ worked ρ M) (names P ρ k)) (after_silent S (meeting ρ M P σ Q f k))
 
 unfoldable pub arrivals : State → Label → List Arrival
-arrivals S (Label.output R) = flat_map (sentArrivals S R) (offers S.next S.threads)
-arrivals S (Label.input R N) = flat_map (takenArrivals S R N) (offers S.next S.threads)
-arrivals S Label.silent = map (metArrival S) (silents S.next S.threads)
+arrivals S (Label.output R) = flat_map (sent_arrivals S R) (offers S.next S.threads)
+arrivals S (Label.input R N) = flat_map (taken_arrivals S R N) (offers S.next S.threads)
+arrivals S Label.silent = map (met_arrival S) (silents S.next S.threads)
 
 -- A formula node at a state.
 pub record Visit : Type 0 where
@@ -51,7 +51,7 @@ at F A = record { formula = F; arrival = A }
 
 -- Whether a visit meets a limit: of the state, or of its recipes.
 unfoldable pub meets : Visit → Bool
-meets v = v.arrival.large || overState v.arrival.state || overRecipes v.arrival.state.aliases v.formula
+meets v = v.arrival.large || over_state v.arrival.state || over_recipes v.arrival.state.aliases v.formula
 
 -- The visits that judging makes: this one first, then, unless it meets a limit, those of the parts, and for a step formula
 -- those at each state that its steps lead to.
@@ -65,11 +65,11 @@ visits (Formula.step a F) A =
     ∷ (elim (meets (at (Formula.step a F) A)) [ true ↦ [] | false ↦ flat_map (visits F) (arrivals A.state a) ])
 
 -- What is counted, and what must be free of limits, is the visits of both models together.
-abbrev pub visitsBoth : Process → Process → Formula → List Visit
-visitsBoth P Q F = visits F (startArrival P) ++ visits F (startArrival Q)
+abbrev pub visits_both : Process → Process → Formula → List Visit
+visits_both P Q F = visits F (start_arrival P) ++ visits F (start_arrival Q)
 
 abbrev pub count_of : Process → Process → Formula → ℕ
-count_of P Q F = length (visitsBoth P Q F)
+count_of P Q F = length (visits_both P Q F)
 
 abbrev pub MeetsNoLimit : Process → Process → Formula → Type 0
-MeetsNoLimit P Q F = Every (λ v. meets v ≡ false) (visitsBoth P Q F)
+MeetsNoLimit P Q F = Every (λ v. meets v ≡ false) (visits_both P Q F)

@@ -19,8 +19,8 @@ pub data ◌≈◌ {L : Type 0} : Tree L → Tree L → Type 0 where
   reflexive : (m : Tree L) → m ≈ m
   symmetric : {m n : Tree L} → m ≈ n → n ≈ m
   transitive : {l m n : Tree L} → l ≈ m → m ≈ n → l ≈ n
-  under-proj : (s : Side) {m n : Tree L} → m ≈ n → proj s m ≈ proj s n
-  under-binary : (b : Binary) {m n k l : Tree L} → m ≈ n → k ≈ l → binary b m k ≈ binary b n l
+  under_proj : (s : Side) {m n : Tree L} → m ≈ n → proj s m ≈ proj s n
+  under_binary : (b : Binary) {m n k l : Tree L} → m ≈ n → k ≈ l → binary b m k ≈ binary b n l
 
 -- Equal by the equations, however that was derived.
 abbrev pub Equal : {L : Type 0} → Tree L → Tree L → Type 0

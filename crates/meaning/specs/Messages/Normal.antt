@@ -1,6 +1,6 @@
 -- The normal form of a message, from its leaves up, and the test of equality by it ("Messages").
 use Rattle.std.specs.Prelude.{ℕ, Bool, true, false, ◌&&◌, eqb}
-use Rattle.meaning.specs.Messages.Term.{Side, Direction, opposite, Binary, pair, cipher, mac, sideKind, binaryKind, leaf, proj, binary}
+use Rattle.meaning.specs.Messages.Term.{Side, Direction, opposite, Binary, pair, cipher, mac, side_kind, binary_kind, leaf, proj, binary}
 use Rattle.meaning.specs.Messages.Term.{Name, public, private, Message, nodes}
 use Rattle.meaning.specs.Messages.Equation.{part}
 
@@ -16,11 +16,11 @@ same (leaf a) (leaf b) = same_name a b
 same (leaf a) (proj t n) = false
 same (leaf a) (binary c n l) = false
 same (proj s m) (leaf b) = false
-same (proj s m) (proj t n) = eqb (sideKind s) (sideKind t) && same m n
+same (proj s m) (proj t n) = eqb (side_kind s) (side_kind t) && same m n
 same (proj s m) (binary c n l) = false
 same (binary b m k) (leaf a) = false
 same (binary b m k) (proj t n) = false
-same (binary b m k) (binary c n l) = eqb (binaryKind b) (binaryKind c) && same m n && same k l
+same (binary b m k) (binary c n l) = eqb (binary_kind b) (binary_kind c) && same m n && same k l
 
 -- A node over parts in normal form, with the equation applied where one applies.
 unfoldable pub project : Side → Message → Message
@@ -32,7 +32,7 @@ project s (binary mac m n) = proj s (binary mac m n)
 
 -- Whether the cipher d under the key k undoes a node of kind b that has the key l.
 abbrev pub undoes : Direction → Binary → Message → Message → Bool
-undoes d b l k = eqb (binaryKind b) (binaryKind (cipher (opposite d))) && same l k
+undoes d b l k = eqb (binary_kind b) (binary_kind (cipher (opposite d))) && same l k
 
 unfoldable pub crypt : Direction → Message → Message → Message
 crypt d (leaf a) k = binary (cipher d) (leaf a) k

@@ -21,15 +21,15 @@ pub data Binary : Type 0 where
   mac : Binary
 
 -- The numbers that document 01 gives to the kinds.
-abbrev pub sideKind : Side → ℕ
-sideKind fst = 3
-sideKind snd = 4
+abbrev pub side_kind : Side → ℕ
+side_kind fst = 3
+side_kind snd = 4
 
-abbrev pub binaryKind : Binary → ℕ
-binaryKind pair = 2
-binaryKind (cipher enc) = 5
-binaryKind (cipher dec) = 6
-binaryKind mac = 7
+abbrev pub binary_kind : Binary → ℕ
+binary_kind pair = 2
+binary_kind (cipher enc) = 5
+binary_kind (cipher dec) = 6
+binary_kind mac = 7
 
 pub data Tree (L : Type 0) : Type 0 where
   leaf : L → Tree L

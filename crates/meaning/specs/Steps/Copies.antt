@@ -13,7 +13,7 @@ module _ {X : Type 0} (own : Bound → Prefix → Process → X) (copied : Bound
   settled (Process.new P) ρ n = settled P (ρ ▸ leaf (private n)) (suc n)
   settled (Process.act p P) ρ n = (act ρ p P, own ρ p P) ∷ []
   settled (Process.if M N P Q) ρ n = elim (equal (written ρ M) (written ρ N)) [ true ↦ settled P ρ n | false ↦ settled Q ρ n ]
-  settled (Process.let-in M P) ρ n = settled P (ρ ▸ worked ρ M) n
+  settled (Process.let_in M P) ρ n = settled P (ρ ▸ worked ρ M) n
   settled (Process.par P Q) ρ n = settled P ρ n ++ settled Q ρ (names P ρ n)
   settled (Process.repl P) ρ n = (repl ρ P, copied ρ P (settled P ρ)) ∷ []
 

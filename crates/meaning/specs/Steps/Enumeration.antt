@@ -8,7 +8,7 @@ use Rattle.meaning.specs.Bytes.Formula.{Label}
 use Rattle.meaning.specs.Steps.State.{Bound, written, Thread, repl, names, settle, State}
 use Rattle.meaning.specs.Steps.Offer.{Offer, offer, placed, opened}
 use Rattle.meaning.specs.Steps.Silent.{Meeting, meeting, framed}
-use Rattle.meaning.specs.Steps.Step.{afterOutput, afterInput, afterSilent}
+use Rattle.meaning.specs.Steps.Step.{after_output, after_input, after_silent}
 use Rattle.meaning.specs.Steps.Copies.{result_of, paired}
 
 -- A list cut at one of its elements, and all such cuts, left to right.
@@ -23,29 +23,29 @@ cuts [] = []
 cuts (t ∷ ts) = cut [] t ts ∷ map (shift t) (cuts ts)
 
 -- The threads of a list of threads with results.
-abbrev pub threadsOf : {X : Type 0} → List (Thread × X) → List Thread
-threadsOf xs = map (λ x. x.0) xs
+abbrev pub threads_of : {X : Type 0} → List (Thread × X) → List Thread
+threads_of xs = map (λ x. x.0) xs
 
 -- Offers. Those of a list: thread by thread, what is left and right of the thread staying.
-unfoldable pub offersAt : ℕ → Cut (Thread × (ℕ → List Offer)) → List Offer
-offersAt n (cut l t r) = map (placed (λ x. threadsOf l ++ x ++ threadsOf r)) (t.1 n)
+unfoldable pub offers_at : ℕ → Cut (Thread × (ℕ → List Offer)) → List Offer
+offers_at n (cut l t r) = map (placed (λ x. threads_of l ++ x ++ threads_of r)) (t.1 n)
 
-unfoldable pub offersAmong : ℕ → List (Thread × (ℕ → List Offer)) → List Offer
+unfoldable pub offers_among : ℕ → List (Thread × (ℕ → List Offer)) → List Offer
 unfolding flat_map
-offersAmong n ts = flat_map (offersAt n) (cuts ts)
+offers_among n ts = flat_map (offers_at n) (cuts ts)
 
 -- Those of a thread: its own, or those of a fresh settled copy, with the repl thread after the copy's rest.
-abbrev pub ownOffer : Bound → Prefix → Process → ℕ → List Offer
-ownOffer ρ p P n = offer ρ p P (λ x. x) n ∷ []
+abbrev pub own_offer : Bound → Prefix → Process → ℕ → List Offer
+own_offer ρ p P n = offer ρ p P (λ x. x) n ∷ []
 
-abbrev pub copyOffers : Bound → Process → (ℕ → List (Thread × (ℕ → List Offer))) → ℕ → List Offer
-copyOffers ρ P copy n = map (placed (λ x. x ++ (repl ρ P ∷ []))) (offersAmong (names P ρ n) (copy n))
+abbrev pub copy_offers : Bound → Process → (ℕ → List (Thread × (ℕ → List Offer))) → ℕ → List Offer
+copy_offers ρ P copy n = map (placed (λ x. x ++ (repl ρ P ∷ []))) (offers_among (names P ρ n) (copy n))
 
-unfoldable pub offersOf : Thread → ℕ → List Offer
-offersOf t = result_of ownOffer copyOffers t
+unfoldable pub offers_of : Thread → ℕ → List Offer
+offers_of t = result_of own_offer copy_offers t
 
 unfoldable pub offers : ℕ → List Thread → List Offer
-offers n ts = offersAmong n (paired offersOf ts)
+offers n ts = offers_among n (paired offers_of ts)
 
 -- One meeting where the first offer can send to the second, none otherwise.
 unfoldable pub joined : (List Thread → List Thread → List Thread) → Offer → Offer → List Meeting
@@ -56,49 +56,49 @@ joined arrange (offer ρ (input C) P f m) (offer σ (input D) Q g k) = []
 joined arrange (offer ρ (input C) P f m) (offer σ (output D N) Q g k) = []
 
 -- Silent steps. First those of a list's threads, thread by thread.
-unfoldable pub silentAt : ℕ → Cut (Thread × (ℕ → List Meeting)) → List Meeting
-silentAt n (cut l t r) = map (framed (λ x. threadsOf l ++ x ++ threadsOf r)) (t.1 n)
+unfoldable pub silent_at : ℕ → Cut (Thread × (ℕ → List Meeting)) → List Meeting
+silent_at n (cut l t r) = map (framed (λ x. threads_of l ++ x ++ threads_of r)) (t.1 n)
 
 -- Then the pairs: the sender's thread, its offers, and for each the takers left of it and right of it.
-unfoldable pub pairsAt : ℕ → Cut Thread → List Meeting
-pairsAt n (cut l t r) =
+unfoldable pub pairs_at : ℕ → Cut Thread → List Meeting
+pairs_at n (cut l t r) =
     flat_map (λ o. flat_map (joined (λ a b. b ++ a ++ r) o) (offers (opened o) l) ++ flat_map (joined (λ a b. l ++ a ++ b) o) (offers (opened o) r))
-    (offersOf t n)
+    (offers_of t n)
 
-unfoldable pub silentAmong : ℕ → List (Thread × (ℕ → List Meeting)) → List Meeting
-silentAmong n ts = flat_map (silentAt n) (cuts ts) ++ flat_map (pairsAt n) (cuts (threadsOf ts))
+unfoldable pub silent_among : ℕ → List (Thread × (ℕ → List Meeting)) → List Meeting
+silent_among n ts = flat_map (silent_at n) (cuts ts) ++ flat_map (pairs_at n) (cuts (threads_of ts))
 
 -- Those of a repl thread: first inside a copy, then from one copy to another.
-abbrev pub noSilent : Bound → Prefix → Process → ℕ → List Meeting
-noSilent ρ p P n = []
+abbrev pub no_silent : Bound → Prefix → Process → ℕ → List Meeting
+no_silent ρ p P n = []
 
-unfoldable pub twoCopies : Bound → Process → ℕ → List Meeting
-twoCopies ρ P n =
+unfoldable pub two_copies : Bound → Process → ℕ → List Meeting
+two_copies ρ P n =
     flat_map (λ o. flat_map (joined (λ a b. a ++ b ++ (repl ρ P ∷ [])) o) (offers (names P ρ (opened o)) (settle P ρ (opened o))))
     (offers (names P ρ n) (settle P ρ n))
 
-abbrev pub copySilent : Bound → Process → (ℕ → List (Thread × (ℕ → List Meeting))) → ℕ → List Meeting
-copySilent ρ P copy n =
-    map (framed (λ x. x ++ (repl ρ P ∷ []))) (silentAmong (names P ρ n) (copy n)) ++ twoCopies ρ P n
+abbrev pub copy_silent : Bound → Process → (ℕ → List (Thread × (ℕ → List Meeting))) → ℕ → List Meeting
+copy_silent ρ P copy n =
+    map (framed (λ x. x ++ (repl ρ P ∷ []))) (silent_among (names P ρ n) (copy n)) ++ two_copies ρ P n
 
-unfoldable pub silentOf : Thread → ℕ → List Meeting
-silentOf t = result_of noSilent copySilent t
+unfoldable pub silent_of : Thread → ℕ → List Meeting
+silent_of t = result_of no_silent copy_silent t
 
 unfoldable pub silents : ℕ → List Thread → List Meeting
-silents n ts = silentAmong n (paired silentOf ts)
+silents n ts = silent_among n (paired silent_of ts)
 
 -- Labelled steps: each offer that answers the label, each silent step.
 unfoldable pub sent : State → Recipe → Offer → List State
 sent S R (offer ρ (output C M) P f m) =
-    elim (equal (written ρ C) (written S.aliases R)) [ true ↦ afterOutput S ρ M P f m ∷ [] | false ↦ [] ]
+    elim (equal (written ρ C) (written S.aliases R)) [ true ↦ after_output S ρ M P f m ∷ [] | false ↦ [] ]
 sent S R (offer ρ (input C) P f m) = []
 
 unfoldable pub taken : State → (R N : Recipe) → Offer → List State
 taken S R N (offer ρ (output C M) P f m) = []
 taken S R N (offer ρ (input C) P f m) =
-    elim (equal (written ρ C) (written S.aliases R)) [ true ↦ afterInput S N ρ P f m ∷ [] | false ↦ [] ]
+    elim (equal (written ρ C) (written S.aliases R)) [ true ↦ after_input S N ρ P f m ∷ [] | false ↦ [] ]
 
 unfoldable pub steps : State → Label → List State
 steps S (Label.output R) = flat_map (sent S R) (offers S.next S.threads)
 steps S (Label.input R N) = flat_map (taken S R N) (offers S.next S.threads)
-steps S Label.silent = map (afterSilent S) (silents S.next S.threads)
+steps S Label.silent = map (after_silent S) (silents S.next S.threads)

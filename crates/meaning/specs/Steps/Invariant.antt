@@ -28,5 +28,5 @@ ThreadStored n (act ρ p P) = BoundStored n ρ
 ThreadStored n (repl ρ P) = BoundStored n ρ
 
 pub record Invariant (S : State) : Type 0 where
-  pub in-threads : Every (ThreadStored S.next) S.threads
-  pub in-aliases : BoundStored S.next S.aliases
+  pub in_threads : Every (ThreadStored S.next) S.threads
+  pub in_aliases : BoundStored S.next S.aliases

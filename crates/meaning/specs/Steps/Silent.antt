@@ -36,7 +36,7 @@ mutual
     among : {n : ℕ} {ts l r : List Thread} {t : Thread} {w : Meeting} → Split ts l t r → ThreadSilent n t w
         → ListSilent n ts (framed (λ x. l ++ x ++ r) w)
     -- Between two threads of the list, the taker left or right of the sender.
-    with-left : {n : ℕ} {ts l r : List Thread} {t : Thread} {o i : Offer} {w : Meeting}
+    with_left : {n : ℕ} {ts l r : List Thread} {t : Thread} {o i : Offer} {w : Meeting}
         → Split ts l t r → ThreadOffer n t o → ListOffer (opened o) l i → Joins (λ a b. b ++ a ++ r) o i w → ListSilent n ts w
-    with-right : {n : ℕ} {ts l r : List Thread} {t : Thread} {o i : Offer} {w : Meeting}
+    with_right : {n : ℕ} {ts l r : List Thread} {t : Thread} {o i : Offer} {w : Meeting}
         → Split ts l t r → ThreadOffer n t o → ListOffer (opened o) r i → Joins (λ a b. l ++ a ++ b) o i w → ListSilent n ts w

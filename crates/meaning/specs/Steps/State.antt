@@ -13,13 +13,13 @@ abbrev pub ◌▸◌ : Bound → Message → Bound
 ρ ▸ m = ρ ++ (m ∷ [])
 
 -- What a leaf stands for. Outside the scope, which no well-formed input reaches, it is public name 0.
-abbrev pub meaningOf : Bound → Leaf → Message
-meaningOf ρ (name n) = leaf (public n)
-meaningOf ρ (variable k) = get_or ρ k (leaf (public 0))
+abbrev pub meaning_of : Bound → Leaf → Message
+meaning_of ρ (name n) = leaf (public n)
+meaning_of ρ (variable k) = get_or ρ k (leaf (public 0))
 
 -- The message of a term, as written and in normal form.
 abbrev pub written : Bound → Term → Message
-written ρ t = substitute (meaningOf ρ) t
+written ρ t = substitute (meaning_of ρ) t
 
 abbrev pub worked : Bound → Term → Message
 worked ρ t = normal (written ρ t)
@@ -35,7 +35,7 @@ names Process.nil ρ n = n
 names (Process.new P) ρ n = names P (ρ ▸ leaf (private n)) (suc n)
 names (Process.act p P) ρ n = n
 names (Process.if M N P Q) ρ n = elim (equal (written ρ M) (written ρ N)) [ true ↦ names P ρ n | false ↦ names Q ρ n ]
-names (Process.let-in M P) ρ n = names P (ρ ▸ worked ρ M) n
+names (Process.let_in M P) ρ n = names P (ρ ▸ worked ρ M) n
 names (Process.par P Q) ρ n = names Q ρ (names P ρ n)
 names (Process.repl P) ρ n = n
 
@@ -45,7 +45,7 @@ settle Process.nil ρ n = []
 settle (Process.new P) ρ n = settle P (ρ ▸ leaf (private n)) (suc n)
 settle (Process.act p P) ρ n = Thread.act ρ p P ∷ []
 settle (Process.if M N P Q) ρ n = elim (equal (written ρ M) (written ρ N)) [ true ↦ settle P ρ n | false ↦ settle Q ρ n ]
-settle (Process.let-in M P) ρ n = settle P (ρ ▸ worked ρ M) n
+settle (Process.let_in M P) ρ n = settle P (ρ ▸ worked ρ M) n
 settle (Process.par P Q) ρ n = settle P ρ n ++ settle Q ρ (names P ρ n)
 settle (Process.repl P) ρ n = Thread.repl ρ P ∷ []
 

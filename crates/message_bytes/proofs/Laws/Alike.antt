@@ -14,10 +14,10 @@ use lib.Seq.{take-suc, take_all}
 use Rattle.meaning.specs.Messages.Term.{Message}
 use Rattle.meaning.specs.Messages.Equation.{Equal, Normal, reflexive}
 use Rattle.meaning.specs.Messages.Normal.{same, normal, equal}
-use Rattle.meaning.proofs.Messages.{normal-of-normal, equalityDecided}
-use Rattle.meaning.proofs.Messages.Same.{same-sound, same_refl}
+use Rattle.meaning.proofs.Messages.{normal_of_normal, equality_decided}
+use Rattle.meaning.proofs.Messages.Same.{same_sound, same_refl}
 use Rattle.meaning.proofs.Test.{is_false, T-alike}
-use Rattle.message_bytes.specs.Encoding.{encodeMessage}
+use Rattle.message_bytes.specs.Encoding.{encode_message}
 use Rattle.message_bytes.specs.Run.{alike, Decides}
 use Rattle.message_bytes.proofs.Laws.Encoding.{encode_injective}
 
@@ -34,18 +34,18 @@ same_alike [] = tt
 same_alike (x ∷ a) = search (and_i, eqb_refl, same_alike a)
 
 -- Runs are the same exactly where the messages are written alike; and of normal forms, exactly where they are equal.
-pub same_runs : (m n : Message) → alike (encodeMessage m) (encodeMessage n) ≡ same m n
+pub same_runs : (m n : Message) → alike (encode_message m) (encode_message n) ≡ same m n
 same_runs m n =
-    T-alike (alike (encodeMessage m) (encodeMessage n)) (same m n)
-    (λ t. rw (encode_injective m n (alike_same (encodeMessage m) (encodeMessage n) t)) (same_refl n))
-    (λ t. rw (same-sound m n t) (same_alike (encodeMessage n)))
+    T-alike (alike (encode_message m) (encode_message n)) (same m n)
+    (λ t. rw (encode_injective m n (alike_same (encode_message m) (encode_message n) t)) (same_refl n))
+    (λ t. rw (same_sound m n t) (same_alike (encode_message n)))
 
-pub runs-decide : (m n : Message) → Normal m → Normal n → Equal m n ↔ (encodeMessage m ≡ encodeMessage n)
+pub runs-decide : (m n : Message) → Normal m → Normal n → Equal m n ↔ (encode_message m ≡ encode_message n)
 unfolding equal
 runs-decide m n h k = (
   λ e.
-      let alike = same-sound (normal m) (normal n) ((equalityDecided m n).0 e) in
-      cc (normal-of-normal m h, normal-of-normal n k),
+      let alike = same_sound (normal m) (normal n) ((equality_decided m n).0 e) in
+      cc (normal_of_normal m h, normal_of_normal n k),
   λ e. rw (encode_injective m n e) (∣ reflexive n ∣₁),
 )
 
@@ -68,16 +68,16 @@ module _ (a b : List ℕ) where
       → take (i + 1) a ≡ take (i + 1) b
   one_more i h l n e = let m : i < length b = omega arith in rw (add-one, take-suc a i 0, take-suc b i 0) (cc)
 
-  pub same-to-the-end : (i : ℕ) → take i a ≡ take i b → length a ≡ length b → length a ≤ i → true ≡ alike a b
-  same-to-the-end i h l n = all_same (sym (take_all i a n) ∙ h ∙ take_all i b (omega arith))
+  pub same_to_the_end : (i : ℕ) → take i a ≡ take i b → length a ≡ length b → length a ≤ i → true ≡ alike a b
+  same_to_the_end i h l n = all_same (sym (take_all i a n) ∙ h ∙ take_all i b (omega arith))
 
   -- Where both are runs of normal forms, that is the equality of the messages.
   pub decides : {r : Bool} → r ≡ alike a b → Decides a b r
   decides e = record {
     exact = λ x y nx ny p q. (
       λ t. (runs-decide x y nx ny).1 (sym p ∙ alike_same a b (rw e at t) ∙ q),
-      λ t. rw (e, p, q, (runs-decide x y nx ny).0 t) (same_alike (encodeMessage y)),
+      λ t. rw (e, p, q, (runs-decide x y nx ny).0 t) (same_alike (encode_message y)),
     );
   }
 
-pub ruleset alikes = (other_length, other_byte, one_more, same-to-the-end, decides)
+pub ruleset alikes = (other_length, other_byte, one_more, same_to_the_end, decides)

@@ -10,30 +10,30 @@ use lib.Seq.{length-take-le}
 use Rattle.meaning.specs.Messages.Term.{Message}
 use Rattle.meaning.specs.Messages.Normal.{normal, size}
 use Rattle.meaning.specs.Bytes.Standing.{Stands}
-use Rattle.message_bytes.specs.Encoding.{encodeMessage}
-use Rattle.message_normal.specs.Normal.{PartsNormal, firstEnd, Normalised}
+use Rattle.message_bytes.specs.Encoding.{encode_message}
+use Rattle.message_normal.specs.Normal.{PartsNormal, first_end, Normalised}
 use Rattle.buffer.specs.Buffer.{Within}
 use Rattle.message_term.specs.Work.{answer_of}
 use Rattle.message_term.specs.Inner.{Reduced}
 use Rattle.message_term.specs.declared.work.Worked.TheVariants.{Done, TooLarge}
-use Rattle.message_bytes.proofs.Laws.Encoding.{length-encode}
-use Rattle.buffer.proofs.Laws.Buffer.{part, back-within, back-stands}
+use Rattle.message_bytes.proofs.Laws.Encoding.{length_encode}
+use Rattle.buffer.proofs.Laws.Buffer.{part, back_within, back_stands}
 
 module _ {ys : List ℕ} (before : List ℕ) (start mid end : ℕ) {count : ℕ}
     (n : Normalised (take (end - start) (drop start before)) (mid - start) count ys) where
   -- What the part that came back begins with.
-  its-normal : (x : Message) → PartsNormal x → Stands before start (encodeMessage x) end → mid ≡ start + firstEnd x
-      → Stands ys 0 (encodeMessage (normal x)) (2 * size x) × (count ≡ 2 * size x)
-  its-normal x p q f =
+  its_normal : (x : Message) → PartsNormal x → Stands before start (encode_message x) end → mid ≡ start + first_end x
+      → Stands ys 0 (encode_message (normal x)) (2 * size x) × (count ≡ 2 * size x)
+  its_normal x p q f =
       let s = n.there x p (part q) (omega arith) in
-      let size : count ≡ 2 * size x = omega (arith, s.size, length-encode (normal x)) in
+      let size : count ≡ 2 * size x = omega (arith, s.size, length_encode (normal x)) in
       (rw size at s, size)
 
-  pub reduced-large : {next : ℕ} {after : List ℕ} → 510 < count → Reduced before start mid end next TooLarge after
+  pub reduced_large : {next : ℕ} {after : List ℕ} → 510 < count → Reduced before start mid end next TooLarge after
   unfolding answer_of
-  reduced-large l = record {
-    answer = λ x p q f. let (s, c) = its-normal x p q f in rw (lt-ltb 255 (size x) (omega arith));
-    run = λ x p q f o. let (s, c) = its-normal x p q f in absurd (true≢false (sym (lt-ltb 255 (size x) (omega arith)) ∙ o));
+  reduced_large l = record {
+    answer = λ x p q f. let (s, c) = its_normal x p q f in rw (lt-ltb 255 (size x) (omega arith));
+    run = λ x p q f o. let (s, c) = its_normal x p q f in absurd (true≢false (sym (lt-ltb 255 (size x) (omega arith)) ∙ o));
   }
 
   module _ {after : List ℕ} (l : length ys ≡ length (take (end - start) (drop start before)))
@@ -45,12 +45,12 @@ module _ {ys : List ℕ} (before : List ℕ) (start mid end : ℕ) {count : ℕ}
     pub reduced : {next : ℕ} → count ≤ 510 → Reduced before start mid end next (Done next (start + count)) after
     unfolding answer_of
     reduced c = record {
-      answer = λ x p q f. let (s, g) = its-normal x p q f in rw (le-ltb 255 (size x) (omega arith), g);
+      answer = λ x p q f. let (s, g) = its_normal x p q f in rw (le-ltb 255 (size x) (omega arith), g);
       run = λ x p q f o.
-          let (s, g) = its-normal x p q f in back-stands before start ys end e as_long (omega arith) (omega arith) s;
+          let (s, g) = its_normal x p q f in back_stands before start ys end e as_long (omega arith) (omega arith) s;
     }
 
-    pub reduced-within : Within start end before after
-    reduced-within = back-within before start ys end e as_long (omega arith) (omega arith)
+    pub reduced_within : Within start end before after
+    reduced_within = back_within before start ys end e as_long (omega arith) (omega arith)
 
-pub ruleset reductions = (reduced-large, reduced, reduced-within)
+pub ruleset reductions = (reduced_large, reduced, reduced_within)

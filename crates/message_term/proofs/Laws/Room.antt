@@ -8,79 +8,79 @@ use Rattle.buffer.specs.Buffer.{Within}
 use Rattle.message_term.specs.Work.{Reaches}
 use Rattle.message_term.specs.declared.work.Worked.{Worked}
 use Rattle.message_term.specs.declared.work.Worked.TheVariants.{Done}
-use Rattle.buffer.proofs.Laws.Buffer.{one-after, wider, node-within}
+use Rattle.buffer.proofs.Laws.Buffer.{one_after, wider, node_within}
 
 -- What one node takes is less than its share.
 module _ {m n : List ℕ} {start left : ℕ} (some : left ≡ 0 → ⊥) where
-  pub name-room : Within start (start + 2) m n → Within start (start + 512 * left) m n
-  name-room w = wider w (omega arith) (omega arith)
+  pub name_room : Within start (start + 2) m n → Within start (start + 512 * left) m n
+  name_room w = wider w (omega arith) (omega arith)
 
-  pub variable-room : Within start (start + 510) m n → Within start (start + 512 * left) m n
-  variable-room w = wider w (omega arith) (omega arith)
+  pub variable_room : Within start (start + 510) m n → Within start (start + 512 * left) m n
+  variable_room w = wider w (omega arith) (omega arith)
 
-pub node-room : {m n : List ℕ} {start left : ℕ} → (left ≡ 0 → ⊥) → Within start (start + 512 * (left - 1 + 1)) m n
+pub node_room : {m n : List ℕ} {start left : ℕ} → (left ≡ 0 → ⊥) → Within start (start + 512 * (left - 1 + 1)) m n
     → Within start (start + 512 * left) m n
-node-room {left} some w = wider w (omega arith) (omega arith)
+node_room {left} some w = wider w (omega arith) (omega arith)
 
-pub leaf-reaches : {start left : ℕ} {r : Worked} → (left ≡ 0 → ⊥) → Reaches start 1 r → Reaches start left r
-leaf-reaches some h = record {
+pub leaf_reaches : {start left : ℕ} {r : Worked} → (left ≡ 0 → ⊥) → Reaches start 1 r → Reaches start left r
+leaf_reaches some h = record {
   there = λ i j e. let (low, high, one) = h.there i j e in (low, high, omega arith);
 }
 
-pub ruleset term-rooms = (name-room, variable-room, node-room, leaf-reaches)
+pub ruleset term_rooms = (name_room, variable_room, node_room, leaf_reaches)
 
 -- There is no second part behind the first one, which ends at mid.
-pub none-room : {m n : List ℕ} {mid end : ℕ} (left : ℕ) → n ≡ m → end ≡ mid → mid + 512 * left ≤ length m → end ≤ length n
-none-room left e f room = rw e (omega arith)
+pub none_room : {m n : List ℕ} {mid end : ℕ} (left : ℕ) → n ≡ m → end ≡ mid → mid + 512 * left ≤ length m → end ≤ length n
+none_room left e f room = rw e (omega arith)
 
 pub none_within : {m n m₁ : List ℕ} {end : ℕ} (left start mid : ℕ) → Within start end n m₁ → n ≡ m → end ≡ mid
     → Within start (mid + 512 * left) m m₁
 none_within left start mid w e f = wider (rw e at w) (omega arith) (omega arith)
 
 -- The second part is too large; or it ends at high.
-pub large-within : {m m₁ : List ℕ} (left start mid : ℕ) → Within mid (mid + 512 * left) m m₁ → start ≤ mid
+pub large_within : {m m₁ : List ℕ} (left start mid : ℕ) → Within mid (mid + 512 * left) m m₁ → start ≤ mid
     → Within start (mid + 512 * left) m m₁
-large-within left start mid w l = wider w l (omega arith)
+large_within left start mid w l = wider w l (omega arith)
 
 module _ {r : Worked} {left mid i end high : ℕ} (f : end ≡ high) (d : r ≡ Done i high) (h : Reaches mid left r) where
   reached₂ : (mid ≤ high) × (high ≤ mid + 510) × (1 ≤ left)
   reached₂ = h.there i high d
 
-  pub end-above : mid ≤ end
-  end-above = let g = reached₂ in omega arith
+  pub end_above : mid ≤ end
+  end_above = let g = reached₂ in omega arith
 
   module _ {m m₁ n : List ℕ} (e : n ≡ m₁) (w : Within mid (mid + 512 * left) m m₁) where
-    pub end-within : mid + 512 * left ≤ length m → end ≤ length n
-    end-within room = let g = reached₂ in rw e (omega (arith, w.long))
+    pub end_within : mid + 512 * left ≤ length m → end ≤ length n
+    end_within room = let g = reached₂ in rw e (omega (arith, w.long))
 
-    pub joined-within : {m₂ : List ℕ} {start : ℕ} → Within start end n m₂ → start ≤ mid → Within start (mid + 512 * left) m m₂
-    joined-within v l = let g = reached₂ in one-after w (rw e at v) (omega arith) (omega arith) (omega arith) (omega arith)
+    pub joined_within : {m₂ : List ℕ} {start : ℕ} → Within start end n m₂ → start ≤ mid → Within start (mid + 512 * left) m m₂
+    joined_within v l = let g = reached₂ in one_after w (rw e at v) (omega arith) (omega arith) (omega arith) (omega arith)
 
-pub ruleset rest-withins = (none_within, large-within, joined-within)
+pub ruleset rest_withins = (none_within, large_within, joined_within)
 
 -- The kind and the first part; then the rest.
-pub first-within : {m m₁ m₂ : List ℕ} (left start kind : ℕ) → Within (start + 2) (start + 2 + 512 * left) m₁ m₂
+pub first_within : {m m₁ m₂ : List ℕ} (left start kind : ℕ) → Within (start + 2) (start + 2 + 512 * left) m₁ m₂
     → m₁ ≡ set (set m start (kind % 256)) (start + 1) (kind / 256) → start + 512 * (left + 1) ≤ length m
     → Within start (start + 512 * (left + 1)) m m₂
-first-within {m} left start kind v w room =
-    one-after (node-within m start kind w (omega arith)) v (omega arith) (omega arith) (omega arith) (omega arith)
+first_within {m} left start kind v w room =
+    one_after (node_within m start kind w (omega arith)) v (omega arith) (omega arith) (omega arith) (omega arith)
 
 module _ {r : Worked} {i mid : ℕ} (left start : ℕ) (e : r ≡ Done i mid) (h : Reaches (start + 2) left r) where
   reached₁ : (start + 2 ≤ mid) × (mid ≤ start + 2 + 510) × (1 ≤ left)
   reached₁ = h.there i mid e
 
-  pub mid-above : start ≤ mid
-  mid-above = let g = reached₁ in omega arith
+  pub mid_above : start ≤ mid
+  mid_above = let g = reached₁ in omega arith
 
-  pub mid-base : {base : ℕ} → base ≤ start → base ≤ mid
-  mid-base l = let g = reached₁ in omega arith
+  pub mid_base : {base : ℕ} → base ≤ start → base ≤ mid
+  mid_base l = let g = reached₁ in omega arith
 
-  pub mid-room : {m m₁ : List ℕ} → Within start (start + 512 * (left + 1)) m m₁ → start + 512 * (left + 1) ≤ length m
+  pub mid_room : {m m₁ : List ℕ} → Within start (start + 512 * (left + 1)) m m₁ → start + 512 * (left + 1) ≤ length m
       → mid + 512 * left ≤ length m₁
-  mid-room w room = let g = reached₁ in omega (arith, w.long)
+  mid_room w room = let g = reached₁ in omega (arith, w.long)
 
-  pub rest-within : {m m₁ m₂ : List ℕ} → Within start (mid + 512 * left) m₁ m₂ → Within start (start + 512 * (left + 1)) m m₁
+  pub rest_within : {m m₁ m₂ : List ℕ} → Within start (mid + 512 * left) m₁ m₂ → Within start (start + 512 * (left + 1)) m m₁
       → Within start (start + 512 * (left + 1)) m m₂
-  rest-within v w = let g = reached₁ in one-after w v (omega arith) (omega arith) (omega arith) (omega arith)
+  rest_within v w = let g = reached₁ in one_after w v (omega arith) (omega arith) (omega arith) (omega arith)
 
-pub ruleset node-rooms = (mid-above, mid-base, mid-room)
+pub ruleset node_rooms = (mid_above, mid_base, mid_room)

@@ -7,18 +7,18 @@ use Prim.Native.Nat.{ℕ, ◌+◌, ◌-◌}
 use native.Mathlib.Omega.{arith}
 use lib.ListN.{get_or}
 use Rattle.meaning.specs.Messages.Term.{leaf, public}
-use Rattle.meaning.specs.Bytes.Process.{Process, nil, new, act, if, let-in, par, repl}
+use Rattle.meaning.specs.Bytes.Process.{Process, nil, new, act, if, let_in, par, repl}
 use Rattle.meaning.specs.Steps.State.{Bound, names}
-use Rattle.meaning.specs.Judging.Limits.{overSettling}
+use Rattle.meaning.specs.Judging.Limits.{over_settling}
 use Rattle.buffer.specs.Buffer.{Within}
 use Rattle.index_process.specs.Index.{Ends}
-use Rattle.state_record.specs.Place.{rightAt}
+use Rattle.state_record.specs.Place.{right_at}
 use Rattle.state_progress.specs.TraversalResult.{Accumulated, going, unless, named}
-use Rattle.state_record.proofs.Laws.Process.{in-model, kind_of, shaped, process-kind, of-par}
-use Rattle.state_task.proofs.Laws.Bound.{bound-still}
+use Rattle.state_record.proofs.Laws.Process.{in_model, kind_of, shaped, process_kind, of_par}
+use Rattle.state_task.proofs.Laws.Bound.{bound_still}
 use Rattle.state_head.specs.Traversal.{go}
 use Rattle.state_head.specs.Head.{CanSettle, MeetsLimit, SameTraversal, Descends, Settled}
-use Rattle.state_head.specs.Count.{countedOf, count_of, Counts, CountsIf}
+use Rattle.state_head.specs.Count.{counted_of, count_of, Counts, CountsIf}
 use Rattle.state_head.specs.declared.head.Head.{Head}
 use Rattle.state_head.specs.declared.count.Counted.{Counted}
 use Rattle.state_head.specs.declared.count.Counted.TheVariants.{Names, OverLimit}
@@ -30,115 +30,115 @@ use Rattle.state_head.proofs.Laws.Counting.{counted}
 none : Accumulated
 none = record { names = 0; nodes = 0; threads = [] }
 
-same_answer : (a b : Bool) (n k : ℕ) → unless a (going (named n none)) ≡ unless b (going (named k none)) → countedOf a n ≡ countedOf b k
+same_answer : (a b : Bool) (n k : ℕ) → unless a (going (named n none)) ≡ unless b (going (named k none)) → counted_of a n ≡ counted_of b k
 same_answer true true n k e = refl
 same_answer true false n k e = let f : true ≡ false = cc in absurd (true≢false f)
 same_answer false true n k e = let f : true ≡ false = cc in absurd (true≢false f)
 same_answer false false n k e = let f : named n none ≡ named k none = cc in ap Names (ap (λ (g : Accumulated). g.names) f)
 
 traversed : (P : Process) (at : ℕ) (ρ : Bound) (n : ℕ)
-    → go P Count (leaf (public 0)) at ρ (named n none) ≡ unless (overSettling P ρ n) (going (named (names P ρ n) none))
+    → go P Count (leaf (public 0)) at ρ (named n none) ≡ unless (over_settling P ρ n) (going (named (names P ρ n) none))
 traversed P at ρ n = counted P (leaf (public 0)) at ρ (named n none)
 
 same_count : {P : Process} {at : ℕ} {ρ : Bound} {n : ℕ} {Q : Process} {to : ℕ} {σ : Bound} {k : ℕ} → SameTraversal P at ρ n Q to σ k
     → count_of P ρ n ≡ count_of Q σ k
 same_count {P} {at} {ρ} {n} {Q} {to} {σ} {k} w =
-    same_answer (overSettling P ρ n) (overSettling Q σ k) (names P ρ n) (names Q σ k)
+    same_answer (over_settling P ρ n) (over_settling Q σ k) (names P ρ n) (names Q σ k)
     (sym (traversed P at ρ n) ∙ w.same Count (leaf (public 0)) none ∙ traversed Q to σ k)
 
-over-count : {P : Process} {at : ℕ} {ρ : Bound} {n : ℕ} → MeetsLimit P at ρ n → count_of P ρ n ≡ OverLimit
-over-count {P} {at} {ρ} {n} o =
-    same_answer (overSettling P ρ n) true (names P ρ n) 0 (sym (traversed P at ρ n) ∙ o.over Count (leaf (public 0)) none)
+over_count : {P : Process} {at : ℕ} {ρ : Bound} {n : ℕ} → MeetsLimit P at ρ n → count_of P ρ n ≡ OverLimit
+over_count {P} {at} {ρ} {n} o =
+    same_answer (over_settling P ρ n) true (names P ρ n) 0 (sym (traversed P at ρ n) ∙ o.over Count (leaf (public 0)) none)
 
 -- What an answer says.
-answer-over : (b : Bool) (i : ℕ) → OverLimit ≡ countedOf b i → b ≡ true
-answer-over true i e = refl
-answer-over false i e = let f : true ≡ false = cc in absurd (true≢false f)
+answer_over : (b : Bool) (i : ℕ) → OverLimit ≡ counted_of b i → b ≡ true
+answer_over true i e = refl
+answer_over false i e = let f : true ≡ false = cc in absurd (true≢false f)
 
-answer-names : {next : ℕ} (b : Bool) (i : ℕ) → Names next ≡ countedOf b i → (b ≡ false) × (next ≡ i)
-answer-names true i e = let f : true ≡ false = cc in absurd (true≢false f)
-answer-names false i e = (refl, cc)
+answer_names : {next : ℕ} (b : Bool) (i : ℕ) → Names next ≡ counted_of b i → (b ≡ false) × (next ≡ i)
+answer_names true i e = let f : true ≡ false = cc in absurd (true≢false f)
+answer_names false i e = (refl, cc)
 
 module _ (P : Process) (ρ : Bound) (n : ℕ) {a : Counted} (c : a ≡ count_of P ρ n) where
-  pub counted-over : a ≡ OverLimit → overSettling P ρ n ≡ true
-  counted-over is = answer-over (overSettling P ρ n) (names P ρ n) (sym is ∙ c)
+  pub counted_over : a ≡ OverLimit → over_settling P ρ n ≡ true
+  counted_over is = answer_over (over_settling P ρ n) (names P ρ n) (sym is ∙ c)
 
-  pub counted-names : {next : ℕ} → a ≡ Names next → (overSettling P ρ n ≡ false) × (next ≡ names P ρ n)
-  counted-names is = answer-names (overSettling P ρ n) (names P ρ n) (sym is ∙ c)
+  pub counted_names : {next : ℕ} → a ≡ Names next → (over_settling P ρ n ≡ false) × (next ≡ names P ρ n)
+  counted_names is = answer_names (over_settling P ρ n) (names P ρ n) (sym is ∙ c)
 
 -- A process is counted by its head.
 module _ {s m m₁ : List ℕ} {at left end n : ℕ} {h : Head} (d : Descends s at left m end n h m₁) where
-  by-head : {r : Counted} → h.going ≡ true
+  by_head : {r : Counted} → h.going ≡ true
       → ((P : Process) (ρ : Bound) → CanSettle s h.at h.left m₁ h.end h.names P ρ → r ≡ count_of P ρ h.names)
       → Counts s at left m end n r
-  by-head on f = record {
+  by_head on f = record {
     exact = λ P ρ y. let a = d.head on P ρ y in f a.process a.bound a.settles ∙ sym (same_count a.traverses);
   }
 
-  pub head-over : h.going ≡ false → Counts s at left m end n OverLimit
-  head-over off = record { exact = λ P ρ y. sym (over-count (d.over off P ρ y)) }
+  pub head_over : h.going ≡ false → Counts s at left m end n OverLimit
+  head_over off = record { exact = λ P ρ y. sym (over_count (d.over off P ρ y)) }
 
   module _ {kind : ℕ} (on : h.going ≡ true) (k : kind ≡ get_or s h.at 0) where
-    pub head-par : {r : Counted} → kind ≡ 6 → CountsIf 6 s h.at h.left m₁ h.end h.names r → Counts s at left m end n r
-    head-par e c = by-head on (c.exact (sym k ∙ e)).exact
+    pub head_par : {r : Counted} → kind ≡ 6 → CountsIf 6 s h.at h.left m₁ h.end h.names r → Counts s at left m end n r
+    head_par e c = by_head on (c.exact (sym k ∙ e)).exact
 
-    pub head-none : (kind ≡ 6 → ⊥) → Settled s h → Counts s at left m end n (Names h.names)
-    unfolding overSettling names
-    head-none f z = by-head on (λ P ρ y. only P ρ (process-kind P y.process).0)
+    pub head_none : (kind ≡ 6 → ⊥) → Settled s h → Counts s at left m end n (Names h.names)
+    unfolding over_settling names
+    head_none f z = by_head on (λ P ρ y. only P ρ (process_kind P y.process).0)
       where
         only : (P : Process) (ρ : Bound) → get_or s h.at 0 ≡ kind_of P → Names h.names ≡ count_of P ρ h.names
         only nil ρ e = refl
         only (new P) ρ e = absurd (z.other on (inl e))
         only (act p P) ρ e = refl
         only (if M N P Q) ρ e = absurd (z.other on (inr (inl e)))
-        only (let-in M P) ρ e = absurd (z.other on (inr (inr e)))
+        only (let_in M P) ρ e = absurd (z.other on (inr (inr e)))
         only (par P Q) ρ e = absurd (f (k ∙ e))
         only (repl P) ρ e = refl
 
-pub ruleset heads-counted = (head-over, head-par, head-none)
+pub ruleset heads_counted = (head_over, head_par, head_none)
 
 -- Par: the second side is counted after the names of the first.
 module _ {s m : List ℕ} {at left end n : ℕ} {a : Counted} (c : Counts s (at + 1) (left - 1) m end n a) where
-  first-answer : (P Q : Process) (ρ : Bound) → CanSettle s at left m end n (par P Q) ρ → a ≡ count_of P ρ n
-  first-answer P Q ρ y =
-      let (p, q) = of-par P Q y.process in
+  first_answer : (P Q : Process) (ρ : Bound) → CanSettle s at left m end n (par P Q) ρ → a ≡ count_of P ρ n
+  first_answer P Q ρ y =
+      let (p, q) = of_par P Q y.process in
       c.exact P ρ (record {
-        next = rightAt at P;
+        next = right_at at P;
         process = p;
         bound = y.bound;
         room = omega (arith, y.room);
         fits = omega (arith, y.fits);
       })
 
-  pub first-over : a ≡ OverLimit → CountsIf 6 s at left m end n OverLimit
-  unfolding overSettling
-  first-over is = record {
+  pub first_over : a ≡ OverLimit → CountsIf 6 s at left m end n OverLimit
+  unfolding over_settling
+  first_over is = record {
     exact = λ e. record {
       exact = λ P ρ y.
           let (Q, R, f) = shaped 6 P y.process e in
-          let large = counted-over Q ρ n (first-answer Q R ρ (rw f at y)) is in
+          let large = counted_over Q ρ n (first_answer Q R ρ (rw f at y)) is in
           rw (f, large) refl;
     };
   }
 
-  pub both-counted : {m₁ : List ℕ} {next mid high : ℕ} {r : Counted} → a ≡ Names next → Counts s mid (left - 1) m₁ end next r
+  pub both_counted : {m₁ : List ℕ} {next mid high : ℕ} {r : Counted} → a ≡ Names next → Counts s mid (left - 1) m₁ end next r
       → Ends s (at + 1) mid → Within end high m m₁ → CountsIf 6 s at left m end n r
-  unfolding overSettling names
-  both-counted {m₁} {next} {mid} {high} {r} is w l k = record {
+  unfolding over_settling names
+  both_counted {m₁} {next} {mid} {high} {r} is w l k = record {
     exact = λ e. record { exact = λ P ρ y. let (Q, R, f) = shaped 6 P y.process e in rw f (one Q R ρ (rw f at y)) };
   }
     where
       one : (P Q : Process) (ρ : Bound) → CanSettle s at left m end n (par P Q) ρ → r ≡ count_of (par P Q) ρ n
       one P Q ρ y =
-          let (p, q) = of-par P Q y.process in
-          let here : mid ≡ rightAt at P = l.same P (in-model p) in
-          let (fine, later) = counted-names P ρ n (first-answer P Q ρ y) is in
+          let (p, q) = of_par P Q y.process in
+          let here : mid ≡ right_at at P = l.same P (in_model p) in
+          let (fine, later) = counted_names P ρ n (first_answer P Q ρ y) is in
           rw (fine, ← later) (w.exact Q ρ (record {
             next = y.next;
             process = rw (← here) at q;
-            bound = bound-still y.bound k;
+            bound = bound_still y.bound k;
             room = omega (arith, y.room, k.long);
             fits = omega (arith, y.fits, names-fit P ρ n);
           }))
 
-pub ruleset pars-counted = (first-over, both-counted)
+pub ruleset pars_counted = (first_over, both_counted)

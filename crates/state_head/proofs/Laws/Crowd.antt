@@ -10,15 +10,15 @@ use lib.Dec.{ltb}
 use lib.ListN.{length, length-append}
 use borrow.Author.Tests.{ltb-false, le-ltb}
 use Rattle.meaning.specs.Steps.State.{Thread, act, repl}
-use Rattle.meaning.specs.Judging.Limits.{boundNodes, threadNodes}
+use Rattle.meaning.specs.Judging.Limits.{bound_nodes, thread_nodes}
 use Rattle.meaning.proofs.Test.{neither}
-use Rattle.state_record.specs.Record.{Placed, boundOf}
+use Rattle.state_record.specs.Record.{Placed, bound_of}
 use Rattle.state_progress.specs.TraversalResult.{Accumulated, going, unless, push}
-use Rattle.state_head.specs.Settled.{threadsOf}
+use Rattle.state_head.specs.Settled.{threads_of}
 
 -- The threads ps are written, and n is the next private name.
 abbrev pub grown : Accumulated → ℕ → List Placed → Accumulated
-grown g n ps = record { names = n; nodes = g.nodes + threadNodes (threadsOf ps); threads = g.threads ++ ps }
+grown g n ps = record { names = n; nodes = g.nodes + thread_nodes (threads_of ps); threads = g.threads ++ ps }
 
 unfoldable pub crowded : Accumulated → Bool
 crowded g = ltb 32 (length g.threads) || ltb 1024 g.nodes
@@ -35,40 +35,40 @@ within g e =
     (ltb-false 32 (length g.threads) t, ltb-false 1024 g.nodes n)
 
 -- What is crowded stays so.
-pub crowded-later : (g : Accumulated) (n : ℕ) (ps : List Placed) → crowded g ≡ true → crowded (grown g n ps) ≡ true
-crowded-later g n ps e = by-later (crowded (grown g n ps)) refl
+pub crowded_later : (g : Accumulated) (n : ℕ) (ps : List Placed) → crowded g ≡ true → crowded (grown g n ps) ≡ true
+crowded_later g n ps e = by_later (crowded (grown g n ps)) refl
   where
-    by-later : (b : Bool) → crowded (grown g n ps) ≡ b → b ≡ true
-    by-later true f = refl
-    by-later false f =
+    by_later : (b : Bool) → crowded (grown g n ps) ≡ b → b ≡ true
+    by_later true f = refl
+    by_later false f =
         let (t, k) = within (grown g n ps) f in
         let l = length-append g.threads ps in
         absurd (true≢false (sym e ∙ roomy g (omega arith) (omega arith)))
 
 -- Nothing is written; one list, and then another.
-pub grown-nil : (g : Accumulated) → grown g g.names [] ≡ g
-unfolding threadNodes
-grown-nil g = rw (append-nil, add-zero)
+pub grown_nil : (g : Accumulated) → grown g g.names [] ≡ g
+unfolding thread_nodes
+grown_nil g = rw (append-nil, add-zero)
 
-pub threadNodes-append : (ts us : List Thread) → threadNodes (ts ++ us) ≡ threadNodes ts + threadNodes us
-unfolding threadNodes
-threadNodes-append [] us = omega arith
-threadNodes-append (act ρ p P ∷ ts) us = omega (arith, threadNodes-append ts us)
-threadNodes-append (repl ρ P ∷ ts) us = omega (arith, threadNodes-append ts us)
+pub thread_nodes_append : (ts us : List Thread) → thread_nodes (ts ++ us) ≡ thread_nodes ts + thread_nodes us
+unfolding thread_nodes
+thread_nodes_append [] us = omega arith
+thread_nodes_append (act ρ p P ∷ ts) us = omega (arith, thread_nodes_append ts us)
+thread_nodes_append (repl ρ P ∷ ts) us = omega (arith, thread_nodes_append ts us)
 
-pub grown-twice : (g : Accumulated) (n m : ℕ) (ps qs : List Placed) → grown (grown g n ps) m qs ≡ grown g m (ps ++ qs)
-grown-twice g n m ps qs = rw (map-append, threadNodes-append, append_assoc, add_assoc)
+pub grown_twice : (g : Accumulated) (n m : ℕ) (ps qs : List Placed) → grown (grown g n ps) m qs ≡ grown g m (ps ++ qs)
+grown_twice g n m ps qs = rw (map-append, thread_nodes_append, append_assoc, add_assoc)
 
 -- One thread is written.
 abbrev pub alone : ℕ → Thread → List Placed
 alone at t = record { place = at; thread = t } ∷ []
 
-thread-alone : (t : Thread) → threadNodes (t ∷ []) ≡ boundNodes (boundOf t)
-unfolding threadNodes
-thread-alone (act ρ p P) = add-zero _
-thread-alone (repl ρ P) = add-zero _
+thread_alone : (t : Thread) → thread_nodes (t ∷ []) ≡ bound_nodes (bound_of t)
+unfolding thread_nodes
+thread_alone (act ρ p P) = add-zero _
+thread_alone (repl ρ P) = add-zero _
 
 pub pushed : (at : ℕ) (t : Thread) (g : Accumulated)
     → let h = grown g g.names (alone at t) in push at t g ≡ unless (crowded h) (going h)
 unfolding push crowded
-pushed at t g = rw (thread-alone t, length-append g.threads (alone at t), add-one)
+pushed at t g = rw (thread_alone t, length-append g.threads (alone at t), add-one)

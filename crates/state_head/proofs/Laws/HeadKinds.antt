@@ -8,27 +8,27 @@ use lib.ListN.{length, get_or, length-append}
 use Rattle.meaning.specs.Messages.Term.{Term, Message, leaf, private}
 use Rattle.meaning.specs.Messages.Equation.{Normal}
 use Rattle.meaning.specs.Messages.Normal.{normal, equal}
-use Rattle.meaning.specs.Bytes.Process.{Process, new, if, let-in}
-use Rattle.meaning.specs.Bytes.Encoding.{encodeProcess}
+use Rattle.meaning.specs.Bytes.Process.{Process, new, if, let_in}
+use Rattle.meaning.specs.Bytes.Encoding.{encode_process}
 use Rattle.meaning.specs.Bytes.Nesting.{variables}
 use Rattle.meaning.specs.Steps.State.{Bound, ◌▸◌, written, worked}
 use Rattle.meaning.specs.Judging.Limits.{over}
-use Rattle.meaning.proofs.Messages.{normalForms}
+use Rattle.meaning.proofs.Messages.{normal_forms}
 use Rattle.buffer.specs.Buffer.{Within}
 use Rattle.message_term.specs.Bound.{Binds}
 use Rattle.message_term.specs.Work.{BindWorked, Reaches}
-use Rattle.message_binding.specs.Decide.{Compares, comparedOf}
+use Rattle.message_binding.specs.Decide.{Compares, compared_of}
 use Rattle.message_term.specs.declared.work.Worked.{Worked}
 use Rattle.message_term.specs.declared.work.Worked.TheVariants.{Done, TooLarge}
 use Rattle.message_binding.specs.declared.decide.Compared.{Compared}
 use Rattle.message_binding.specs.declared.decide.Compared.TheVariants as compared
-use Rattle.message_term.proofs.Laws.Work.{said-over, said-small}
-use Rattle.message_term.proofs.Theorems.{boundFurther}
-use Rattle.state_record.specs.Place.{ProcessAt, thenAt, elseAt}
-use Rattle.state_progress.specs.TraversalResult.{over-limit}
+use Rattle.message_term.proofs.Laws.Work.{said_over, said_small}
+use Rattle.message_term.proofs.Theorems.{bound_further}
+use Rattle.state_record.specs.Place.{ProcessAt, then_at, else_at}
+use Rattle.state_progress.specs.TraversalResult.{over_limit}
 use Rattle.state_task.specs.Place.{Chosen}
-use Rattle.state_record.proofs.Laws.Process.{in-model, shaped, of-new, of-if, of-let}
-use Rattle.state_task.proofs.Laws.Bound.{bound_at, bound-still}
+use Rattle.state_record.proofs.Laws.Process.{in_model, shaped, of_new, of_if, of_let}
+use Rattle.state_task.proofs.Laws.Bound.{bound_at, bound_still}
 use Rattle.state_head.specs.News.{news}
 use Rattle.state_head.specs.Traversal.{go}
 use Rattle.state_head.specs.Head.{CanSettle, MeetsLimit, HasHead, DescendsIf, StopsAt, Arrives}
@@ -36,16 +36,16 @@ use Rattle.state_head.specs.declared.head.Head.{Head}
 use Rattle.state_head.proofs.Laws.Head.{onward}
 
 -- Where the step comes to.
-abbrev headAt : (at left end n : ℕ) → Head
-headAt at left end n = record { going = true; at = at; left = left; end = end; names = n }
+abbrev head_at : (at left end n : ℕ) → Head
+head_at at left end n = record { going = true; at = at; left = left; end = end; names = n }
 
 -- A step down to where the code arrives, and a limit.
 module _ {s m : List ℕ} {at left end n kind : ℕ} {h : Head} where
   steps : {m₁ : List ℕ} {to less last k : ℕ} → Arrives s to less (length m₁) last k h
-      → ((P : Process) (ρ : Bound) → CanSettle s at left m end n P ρ → get_or s at 0 ≡ kind → HasHead s P at ρ n (headAt to less last k) m₁)
+      → ((P : Process) (ρ : Bound) → CanSettle s at left m end n P ρ → get_or s at 0 ≡ kind → HasHead s P at ρ n (head_at to less last k) m₁)
       → DescendsIf kind s at left m end n h m₁
   steps {m₁} {to} {less} {last} {k} a f = record {
-    exact = λ e. onward {h₁ = headAt to less last k} (λ P ρ y. f P ρ y e) (a.descends m₁ refl);
+    exact = λ e. onward {h₁ = head_at to less last k} (λ P ρ y. f P ρ y e) (a.descends m₁ refl);
   }
 
   limit : {m₁ : List ℕ} → StopsAt end h
@@ -66,156 +66,156 @@ bound-further : {s m m₁ : List ℕ} {at left end n last next to k : ℕ} {P : 
 bound-further {m = m} {m₁} {end = end} {last = last} {to = to} {ρ = ρ} Q x y v p f u b l e = record {
   next = to;
   process = rw (← longer ρ x) at p;
-  bound = boundFurther m m₁ 0 end last ρ x y.bound u (omega (arith, y.process.few)) b;
+  bound = bound_further m m₁ 0 end last ρ x y.bound u (omega (arith, y.process.few)) b;
   room = omega (arith, y.room);
   fits = f;
 }
 
 -- New.
 module _ {s m : List ℕ} {at left end n : ℕ} {h : Head} where
-  pub new-over : 32759 < n → StopsAt end h → DescendsIf 1 s at left m end n h m
-  new-over l o = limit o λ P ρ y e. let (Q, f) = shaped 1 P y.process e in absurd (omega (arith, (rw f at y).fits))
+  pub new_over : 32759 < n → StopsAt end h → DescendsIf 1 s at left m end n h m
+  new_over l o = limit o λ P ρ y e. let (Q, f) = shaped 1 P y.process e in absurd (omega (arith, (rw f at y).fits))
 
-  pub new-down : {m₁ : List ℕ} {last : ℕ} → Arrives s (at + 1) (left - 1) (length m₁) last (n + 1) h → Binds m end (leaf (private n)) last m₁
+  pub new_down : {m₁ : List ℕ} {last : ℕ} → Arrives s (at + 1) (left - 1) (length m₁) last (n + 1) h → Binds m end (leaf (private n)) last m₁
       → Within end (end + 4) m m₁ → last ≡ end + 4 → DescendsIf 1 s at left m end n h m₁
   unfolding go normal
-  new-down {m₁} {last} a b k l = steps a λ P ρ y e. let (Q, f) = shaped 1 P y.process e in rw f (one Q ρ (rw f at y))
+  new_down {m₁} {last} a b k l = steps a λ P ρ y e. let (Q, f) = shaped 1 P y.process e in rw f (one Q ρ (rw f at y))
     where
       one : (P : Process) (ρ : Bound) → CanSettle s at left m end n (new P) ρ
-          → HasHead s (new P) at ρ n (headAt (at + 1) (left - 1) last (n + 1)) m₁
+          → HasHead s (new P) at ρ n (head_at (at + 1) (left - 1) last (n + 1)) m₁
       one P ρ y =
           let next : n + 1 ≡ suc n = omega arith in
           record {
             process = P;
             bound = ρ ▸ leaf (private n);
             settles =
-                bound-further P (leaf (private n)) y refl (of-new P y.process) (omega (arith, y.fits))
-                (normalForms (leaf (private n))).0 b k.long (omega arith);
+                bound-further P (leaf (private n)) y refl (of_new P y.process) (omega (arith, y.fits))
+                (normal_forms (leaf (private n))).0 b k.long (omega arith);
             traverses = record { same = λ T x g. rw next refl; later = omega arith };
           }
 
-pub ruleset news-down = (new-over, new-down)
+pub ruleset news_down = (new_over, new_down)
 
 -- Let.
 module _ {s m m₁ : List ℕ} {at left end n : ℕ} {h : Head} {w : Worked} (b : BindWorked s (at + 1) m 0 end w m₁) where
-  pub let-over : w ≡ TooLarge → StopsAt end h → DescendsIf 5 s at left m end n h m₁
+  pub let_over : w ≡ TooLarge → StopsAt end h → DescendsIf 5 s at left m end n h m₁
   unfolding go
-  let-over is o = limit o λ P ρ y e.
+  let_over is o = limit o λ P ρ y e.
       let (M, Q, f) = shaped 5 P y.process e in
-      let (t, q) = of-let M Q (rw f at y).process in
-      let large = said-over _ _ _ (b.answer M ρ t (bound_at y.bound)) is in
+      let (t, q) = of_let M Q (rw f at y).process in
+      let large = said_over _ _ _ (b.answer M ρ t (bound_at y.bound)) is in
       rw f (record { over = λ T x g. rw large refl })
 
-  pub let-down : {next last : ℕ} → w ≡ Done next last → Arrives s next (left - 1) (length m₁) last n h → Within end (end + 4098) m m₁
+  pub let_down : {next last : ℕ} → w ≡ Done next last → Arrives s next (left - 1) (length m₁) last n h → Within end (end + 4098) m m₁
       → last ≤ end + 2 + 510 → DescendsIf 5 s at left m end n h m₁
   unfolding go
-  let-down {next} {last} is a k l = steps a λ P ρ y e. let (M, Q, f) = shaped 5 P y.process e in rw f (one M Q ρ (rw f at y))
+  let_down {next} {last} is a k l = steps a λ P ρ y e. let (M, Q, f) = shaped 5 P y.process e in rw f (one M Q ρ (rw f at y))
     where
-      one : (M : Term) (P : Process) (ρ : Bound) → CanSettle s at left m end n (let-in M P) ρ
-          → HasHead s (let-in M P) at ρ n (headAt next (left - 1) last n) m₁
+      one : (M : Term) (P : Process) (ρ : Bound) → CanSettle s at left m end n (let_in M P) ρ
+          → HasHead s (let_in M P) at ρ n (head_at next (left - 1) last n) m₁
       one M P ρ y =
-          let (t, q) = of-let M P y.process in
-          let (small, here, ends) = said-small _ _ _ (b.answer M ρ t (bound_at y.bound)) is in
+          let (t, q) = of_let M P y.process in
+          let (small, here, ends) = said_small _ _ _ (b.answer M ρ t (bound_at y.bound)) is in
           let run = b.run M ρ t (bound_at y.bound) small in
           record {
             process = P;
             bound = ρ ▸ worked ρ M;
             settles =
-                bound-further P (worked ρ M) y refl (rw (← here) at q) (omega (arith, y.fits)) (normalForms (written ρ M)).0
+                bound-further P (worked ρ M) y refl (rw (← here) at q) (omega (arith, y.fits)) (normal_forms (written ρ M)).0
                 (rw (← ends) at run) k.long (omega arith);
             traverses = record { same = λ T x g. rw (small, here) refl; later = omega arith };
           }
 
-pub ruleset lets-down = (let-over, let-down)
+pub ruleset lets_down = (let_over, let_down)
 
 -- How far a message that was bound reaches.
 module _ {w : Worked} {next last : ℕ} (end : ℕ) (e : w ≡ Done next last) (h : Reaches (end + 2) 8 w) where
-  pub ends-later : end ≤ last
-  ends-later = let (low, high, one) = h.there next last e in omega arith
+  pub ends_later : end ≤ last
+  ends_later = let (low, high, one) = h.there next last e in omega arith
 
-  pub ends-before : {k : ℕ} → last ≤ k → end ≤ k
-  ends-before l = let (low, high, one) = h.there next last e in omega arith
+  pub ends_before : {k : ℕ} → last ≤ k → end ≤ k
+  ends_before l = let (low, high, one) = h.there next last e in omega arith
 
-  pub ends-soon : last ≤ end + 2 + 510
-  ends-soon = let (low, high, one) = h.there next last e in omega arith
+  pub ends_soon : last ≤ end + 2 + 510
+  ends_soon = let (low, high, one) = h.there next last e in omega arith
 
   pub ends_above : 1024 ≤ end → 1024 ≤ last
   ends_above b = let (low, high, one) = h.there next last e in omega arith
 
-  pub ends-within : {m m₁ : List ℕ} → Within end (end + 4098) m m₁ → end + 4606 ≤ length m → last ≤ length m₁
-  ends-within k b = let (low, high, one) = h.there next last e in omega (arith, k.long)
+  pub ends_within : {m m₁ : List ℕ} → Within end (end + 4098) m m₁ → end + 4606 ≤ length m → last ≤ length m₁
+  ends_within k b = let (low, high, one) = h.there next last e in omega (arith, k.long)
 
-pub ruleset let-ends = (ends-later, ends-soon, ends_above, ends-within)
+pub ruleset let_ends = (ends_later, ends_soon, ends_above, ends_within)
 
 -- What an answer says of two terms that are compared.
-module _ (b : Bool) (next : ℕ) (c : Bool) {r : Compared} (a : r ≡ comparedOf b next c) where
-  terms-or-large : {i : ℕ} {d : Bool} → compared.Terms i d ≡ compared.TooLarge → ⊥
-  terms-or-large e = let z : ◌≡◌ {A = ℕ} 0 1 = cc in omega arith
+module _ (b : Bool) (next : ℕ) (c : Bool) {r : Compared} (a : r ≡ compared_of b next c) where
+  terms_or_large : {i : ℕ} {d : Bool} → compared.Terms i d ≡ compared.TooLarge → ⊥
+  terms_or_large e = let z : ◌≡◌ {A = ℕ} 0 1 = cc in omega arith
 
   large : r ≡ compared.TooLarge → b ≡ true
-  unfolding comparedOf
-  large e = by-case b (sym a ∙ e)
+  unfolding compared_of
+  large e = by_case b (sym a ∙ e)
     where
-      by-case : (b : Bool) → comparedOf b next c ≡ compared.TooLarge → b ≡ true
-      by-case true f = refl
-      by-case false f = absurd (terms-or-large f)
+      by_case : (b : Bool) → compared_of b next c ≡ compared.TooLarge → b ≡ true
+      by_case true f = refl
+      by_case false f = absurd (terms_or_large f)
 
   fine : {i : ℕ} {d : Bool} → r ≡ compared.Terms i d → (b ≡ false) × (i ≡ next) × (d ≡ c)
-  unfolding comparedOf
-  fine {i} {d} e = by-case b (sym a ∙ e)
+  unfolding compared_of
+  fine {i} {d} e = by_case b (sym a ∙ e)
     where
-      by-case : (b : Bool) → comparedOf b next c ≡ compared.Terms i d → (b ≡ false) × (i ≡ next) × (d ≡ c)
-      by-case true f = absurd (terms-or-large (sym f))
-      by-case false f = (refl, cc, cc)
+      by_case : (b : Bool) → compared_of b next c ≡ compared.Terms i d → (b ≡ false) × (i ≡ next) × (d ≡ c)
+      by_case true f = absurd (terms_or_large (sym f))
+      by_case false f = (refl, cc, cc)
 
 -- If.
 module _ {s m : List ℕ} {at left end n : ℕ} {w : Compared} (b : Compares s (at + 1) m 0 end w) where
-  compared-as : (M N : Term) (P Q : Process) (ρ : Bound) → CanSettle s at left m end n (if M N P Q) ρ
-      → w ≡ comparedOf (over ρ M || over ρ N) (thenAt at M N) (equal (written ρ M) (written ρ N))
-  compared-as M N P Q ρ y = let (t, u, p, q) = of-if M N P Q y.process in b.exact M N ρ t u (bound_at y.bound)
+  compared_as : (M N : Term) (P Q : Process) (ρ : Bound) → CanSettle s at left m end n (if M N P Q) ρ
+      → w ≡ compared_of (over ρ M || over ρ N) (then_at at M N) (equal (written ρ M) (written ρ N))
+  compared_as M N P Q ρ y = let (t, u, p, q) = of_if M N P Q y.process in b.exact M N ρ t u (bound_at y.bound)
 
-  pub if-over : {m₁ : List ℕ} {h : Head} → w ≡ compared.TooLarge → StopsAt end h → DescendsIf 4 s at left m end n h m₁
+  pub if_over : {m₁ : List ℕ} {h : Head} → w ≡ compared.TooLarge → StopsAt end h → DescendsIf 4 s at left m end n h m₁
   unfolding go
-  if-over is o = limit o λ P ρ y e.
+  if_over is o = limit o λ P ρ y e.
       let (M, N, Q, R, f) = shaped 4 P y.process e in
-      let wide = large _ _ _ (compared-as M N Q R ρ (rw f at y)) is in
-      rw f (record { over = λ T x g. rw wide (refl {a = over-limit}) })
+      let wide = large _ _ _ (compared_as M N Q R ρ (rw f at y)) is in
+      rw f (record { over = λ T x g. rw wide (refl {a = over_limit}) })
 
-  pub if-down : {m₁ : List ℕ} {next to high : ℕ} {same : Bool} {h : Head} → w ≡ compared.Terms next same → Chosen s next same to
+  pub if_down : {m₁ : List ℕ} {next to high : ℕ} {same : Bool} {h : Head} → w ≡ compared.Terms next same → Chosen s next same to
       → Arrives s to (left - 1) (length m₁) end n h → Within end high m m₁ → DescendsIf 4 s at left m end n h m₁
   unfolding go
-  if-down {m₁} {next} {to} {high} {same} is c a k =
+  if_down {m₁} {next} {to} {high} {same} is c a k =
       steps a λ P ρ y e. let (M, N, Q, R, f) = shaped 4 P y.process e in rw f (one M N Q R ρ (rw f at y))
     where
       -- The branch that was chosen.
       branch : (M N : Term) (P Q : Process) (ρ : Bound) → CanSettle s at left m end n (if M N P Q) ρ → over ρ M || over ρ N ≡ false
-          → next ≡ thenAt at M N → (b : Bool) → same ≡ b → equal (written ρ M) (written ρ N) ≡ b
-          → HasHead s (if M N P Q) at ρ n (headAt to (left - 1) end n) m₁
+          → next ≡ then_at at M N → (b : Bool) → same ≡ b → equal (written ρ M) (written ρ N) ≡ b
+          → HasHead s (if M N P Q) at ρ n (head_at to (left - 1) end n) m₁
       branch M N P Q ρ y small i true e t =
-          let (_, _, p, q) = of-if M N P Q y.process in
-          let here : to ≡ thenAt at M N = c.first e ∙ i in
+          let (_, _, p, q) = of_if M N P Q y.process in
+          let here : to ≡ then_at at M N = c.first e ∙ i in
           record {
             process = P;
             bound = ρ;
             settles = record {
-              next = to + length (encodeProcess P);
+              next = to + length (encode_process P);
               process = rw (← here) at p;
-              bound = bound-still y.bound k;
+              bound = bound_still y.bound k;
               room = omega (arith, y.room, k.long);
               fits = omega (arith, y.fits);
             };
             traverses = record { same = λ T x g. rw (small, t, here) refl; later = omega arith };
           }
       branch M N P Q ρ y small i false e t =
-          let (_, _, p, q) = of-if M N P Q y.process in
-          let here : to ≡ elseAt at M N P = omega (arith, i, (c.second e).same P (rw (← i) at (in-model p))) in
+          let (_, _, p, q) = of_if M N P Q y.process in
+          let here : to ≡ else_at at M N P = omega (arith, i, (c.second e).same P (rw (← i) at (in_model p))) in
           record {
             process = Q;
             bound = ρ;
             settles = record {
               next = y.next;
               process = rw (← here) at q;
-              bound = bound-still y.bound k;
+              bound = bound_still y.bound k;
               room = omega (arith, y.room, k.long);
               fits = omega (arith, y.fits);
             };
@@ -223,9 +223,9 @@ module _ {s m : List ℕ} {at left end n : ℕ} {w : Compared} (b : Compares s (
           }
 
       one : (M N : Term) (P Q : Process) (ρ : Bound) → CanSettle s at left m end n (if M N P Q) ρ
-          → HasHead s (if M N P Q) at ρ n (headAt to (left - 1) end n) m₁
+          → HasHead s (if M N P Q) at ρ n (head_at to (left - 1) end n) m₁
       one M N P Q ρ y =
-          let (small, i, same-as) = fine _ _ _ (compared-as M N P Q ρ y) is in
+          let (small, i, same-as) = fine _ _ _ (compared_as M N P Q ρ y) is in
           branch M N P Q ρ y small i (equal (written ρ M) (written ρ N)) same-as refl
 
-pub ruleset ifs-down = (if-over, if-down)
+pub ruleset ifs_down = (if_over, if_down)

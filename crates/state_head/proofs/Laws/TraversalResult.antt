@@ -10,16 +10,16 @@ use Rattle.meaning.specs.Messages.Term.{leaf, private, Message}
 use Rattle.meaning.specs.Messages.Normal.{equal, same}
 use Rattle.meaning.specs.Bytes.Process.{Prefix, output, input, Process}
 use Rattle.meaning.specs.Steps.State.{Bound, ◌▸◌, written, worked, Thread, act, repl, names}
-use Rattle.meaning.specs.Judging.Limits.{over, overPrefix, boundNodes}
+use Rattle.meaning.specs.Judging.Limits.{over, over_prefix, bound_nodes}
 use Rattle.meaning.proofs.Test.{chosen}
-use Rattle.state_record.specs.Place.{thenAt, elseAt, body_at, rightAt, rest_at}
-use Rattle.state_record.specs.Record.{boundOf}
-use Rattle.state_progress.specs.TraversalResult.{Accumulated, TraversalResult, going, over-limit, found, further, unless, named, returned, push}
-use Rattle.state_task.specs.Machine.{opening, opened, offered, sought, atRepl}
-use Rattle.state_head.specs.Traversal.{built, atPrefix, go}
-use Rattle.state_task.specs.Copies.{copiesAt, openedBy, firstly, lastly}
-use Rattle.state_task.proofs.Laws.Copies.{as-decided}
-use Rattle.state_head.specs.News.{news, laterNews}
+use Rattle.state_record.specs.Place.{then_at, else_at, body_at, right_at, rest_at}
+use Rattle.state_record.specs.Record.{bound_of}
+use Rattle.state_progress.specs.TraversalResult.{Accumulated, TraversalResult, going, over_limit, found, further, unless, named, returned, push}
+use Rattle.state_task.specs.Machine.{opening, opened, offered, sought, at_repl}
+use Rattle.state_head.specs.Traversal.{built, at_prefix, go}
+use Rattle.state_task.specs.Copies.{copies_at, opened_by, firstly, lastly}
+use Rattle.state_task.proofs.Laws.Copies.{as_decided}
+use Rattle.state_head.specs.News.{news, later_news}
 use Rattle.state_task.specs.declared.task.Task.{Task}
 use Rattle.state_task.specs.declared.task.Task.TheVariants.{Count, Judge, Settle, Seek, SeekIn, Find, Build, BuildIn}
 use Rattle.state_task.specs.declared.task.Quest.{Quest}
@@ -31,31 +31,31 @@ use Rattle.state_task.specs.declared.opening.Own.TheVariants.{Passed, Before, Af
 
 -- What holds of a traversal that goes on, whatever it has come to.
 pub record Ends (Q : Accumulated → Type 0) (c : TraversalResult) : Type 0 where
-  pub at-end : (h : Accumulated) → c ≡ going h → Q h
+  pub at_end : (h : Accumulated) → c ≡ going h → Q h
 
 module _ {Q : Accumulated → Type 0} where
   pub ends : {g : Accumulated} → Q g → Ends Q (going g)
-  ends {g} q = record { at-end = λ h p. let e : g ≡ h = cc in rw e at q }
+  ends {g} q = record { at_end = λ h p. let e : g ≡ h = cc in rw e at q }
 
   -- A traversal that met a limit, or has found its thread, does not go on.
-  pub stopped : Ends Q over-limit
-  stopped = record { at-end = λ h p. let e : true ≡ false = cc in absurd (true≢false e) }
+  pub stopped : Ends Q over_limit
+  stopped = record { at_end = λ h p. let e : true ≡ false = cc in absurd (true≢false e) }
 
   pub ends_found : (place next : ℕ) (ms : List Message) → Ends Q (found place next ms)
-  ends_found place next ms = record { at-end = λ h p. let e : true ≡ false = cc in absurd (true≢false e) }
+  ends_found place next ms = record { at_end = λ h p. let e : true ≡ false = cc in absurd (true≢false e) }
 
-  pub ends-unless : (b : Bool) {c : TraversalResult} → Ends Q c → Ends Q (unless b c)
-  ends-unless true e = stopped
-  ends-unless false e = e
+  pub ends_unless : (b : Bool) {c : TraversalResult} → Ends Q c → Ends Q (unless b c)
+  ends_unless true e = stopped
+  ends_unless false e = e
 
-  pub ends-either : (b : Bool) {c d : TraversalResult} → Ends Q c → Ends Q d → Ends Q (elim b [ true ↦ c | false ↦ d ])
-  ends-either true e f = e
-  ends-either false e f = f
+  pub ends_either : (b : Bool) {c d : TraversalResult} → Ends Q c → Ends Q d → Ends Q (elim b [ true ↦ c | false ↦ d ])
+  ends_either true e f = e
+  ends_either false e f = f
 
-  pub ends-further : (c : TraversalResult) {f : Accumulated → TraversalResult} → ((h : Accumulated) → c ≡ going h → Ends Q (f h)) → Ends Q (further c f)
-  ends-further (going h) k = k h refl
-  ends-further over-limit k = stopped
-  ends-further (found place next ms) k = ends_found place next ms
+  pub ends_further : (c : TraversalResult) {f : Accumulated → TraversalResult} → ((h : Accumulated) → c ≡ going h → Ends Q (f h)) → Ends Q (further c f)
+  ends_further (going h) k = k h refl
+  ends_further over_limit k = stopped
+  ends_further (found place next ms) k = ends_found place next ms
 
 -- The next private name is n.
 abbrev pub Next : ℕ → Accumulated → Type 0
@@ -64,114 +64,114 @@ Next n h = h.names ≡ n
 -- Two parts of a traversal, of which the second goes on from the name at which the first ends.
 pub then_next : {c : TraversalResult} {f : Accumulated → TraversalResult} (then : ℕ → ℕ) {n : ℕ} → Ends (Next n) c
     → ((h : Accumulated) → Ends (Next (then h.names)) (f h)) → Ends (Next (then n)) (further c f)
-then_next {c} {f} then e k = ends-further c (λ h p. rw (← e.at-end h p) (k h))
+then_next {c} {f} then e k = ends_further c (λ h p. rw (← e.at_end h p) (k h))
 
 -- Names that were taken are given back.
-pub returned-next : (n : ℕ) (c : TraversalResult) → Ends (Next n) (returned n c)
-returned-next n c = ends-further c (λ h p. ends {g = named n h} refl)
+pub returned_next : (n : ℕ) (c : TraversalResult) → Ends (Next n) (returned n c)
+returned_next n c = ends_further c (λ h p. ends {g = named n h} refl)
 
-pub push-next : (at : ℕ) (t : Thread) (g : Accumulated) → Ends (Next g.names) (push at t g)
+pub push_next : (at : ℕ) (t : Thread) (g : Accumulated) → Ends (Next g.names) (push at t g)
 unfolding push
-push-next at t g =
-    let more = g.nodes + boundNodes (boundOf t) in
+push_next at t g =
+    let more = g.nodes + bound_nodes (bound_of t) in
     let h : Accumulated = record { names = g.names; nodes = more; threads = g.threads ++ (record { place = at; thread = t } ∷ []) } in
-    ends-unless (ltb 32 (suc (length g.threads)) || ltb 1024 more) (ends {g = h} refl)
+    ends_unless (ltb 32 (suc (length g.threads)) || ltb 1024 more) (ends {g = h} refl)
 
 module _ (at : ℕ) (ρ : Bound) (g : Accumulated) where
-  offered-next : (p : Prefix) (P : Process) → Ends (Next g.names) (offered ρ p P g)
+  offered_next : (p : Prefix) (P : Process) → Ends (Next g.names) (offered ρ p P g)
   unfolding offered
-  offered-next p P = ends-unless (overPrefix ρ p P g.names) (ends {g = g} refl)
+  offered_next p P = ends_unless (over_prefix ρ p P g.names) (ends {g = g} refl)
 
   -- One that seeks and goes on has come to what it had come to.
-  pub sought-ends : {Q : Accumulated → Type 0} → Q g → (q : Quest) (k : ℕ) (x : Message) (p : Prefix) → Ends Q (sought q k x at ρ p g)
+  pub sought_ends : {Q : Accumulated → Type 0} → Q g → (q : Quest) (k : ℕ) (x : Message) (p : Prefix) → Ends Q (sought q k x at ρ p g)
   unfolding sought
-  sought-ends z q k x (output C M) =
-      ends-either (q.output && not (ltb at q.from) && not (eqb (at + 1) q.excluded)) (ends-unless (over ρ C)
-      (ends-either (q.any || same (worked ρ C) x) (ends-unless (over ρ M) (ends_found at k (worked ρ C ∷ worked ρ M ∷ []))) (ends z)))
+  sought_ends z q k x (output C M) =
+      ends_either (q.output && not (ltb at q.from) && not (eqb (at + 1) q.excluded)) (ends_unless (over ρ C)
+      (ends_either (q.any || same (worked ρ C) x) (ends_unless (over ρ M) (ends_found at k (worked ρ C ∷ worked ρ M ∷ []))) (ends z)))
       (ends z)
-  sought-ends z q k x (input C) =
-      ends-either (not q.output && not (ltb at q.from) && not (eqb (at + 1) q.excluded)) (ends-unless (over ρ C)
-      (ends-either (q.any || same (worked ρ C) x) (ends_found at k []) (ends z))) (ends z)
+  sought_ends z q k x (input C) =
+      ends_either (not q.output && not (ltb at q.from) && not (eqb (at + 1) q.excluded)) (ends_unless (over ρ C)
+      (ends_either (q.any || same (worked ρ C) x) (ends_found at k []) (ends z))) (ends z)
 
-  built-next : (b : Plan) (x : Message) (p : Prefix) (P : Process) (rest : Bound → Accumulated → TraversalResult)
+  built_next : (b : Plan) (x : Message) (p : Prefix) (P : Process) (rest : Bound → Accumulated → TraversalResult)
       → Ends (Next g.names) (built b x at ρ p P rest g)
   unfolding built
-  built-next b x p P rest =
-      ends-either (eqb (at + 1) b.sender) (returned-next g.names (rest ρ (named b.rest g)))
-      (ends-either (eqb (at + 1) b.taker) (returned-next g.names (rest (ρ ▸ x) (named b.last g))) (push-next at (act ρ p P) g))
+  built_next b x p P rest =
+      ends_either (eqb (at + 1) b.sender) (returned_next g.names (rest ρ (named b.rest g)))
+      (ends_either (eqb (at + 1) b.taker) (returned_next g.names (rest (ρ ▸ x) (named b.last g))) (push_next at (act ρ p P) g))
 
-prefix-next : (T : Task) (x : Message) (at : ℕ) (ρ : Bound) (p : Prefix) (P : Process) (rest : Bound → Accumulated → TraversalResult) (g : Accumulated)
-    → Ends (Next g.names) (atPrefix T x at ρ p P rest g)
-unfolding atPrefix
-prefix-next Count x at ρ p P rest g = ends refl
-prefix-next (Judge k) x at ρ p P rest g = offered-next at ρ g p P
-prefix-next Settle x at ρ p P rest g = then_next (λ n. n) (push-next at (act ρ p P) g) (λ h. offered-next at ρ h p P)
-prefix-next (Seek q k) x at ρ p P rest g = sought-ends at ρ g refl q k x p
-prefix-next (SeekIn q c k) x at ρ p P rest g = ends refl
-prefix-next (Find f past k) x at ρ p P rest g = ends refl
-prefix-next (Build b k) x at ρ p P rest g = built-next at ρ g b x p P rest
-prefix-next (BuildIn b c k) x at ρ p P rest g = push-next at (act ρ p P) g
+prefix_next : (T : Task) (x : Message) (at : ℕ) (ρ : Bound) (p : Prefix) (P : Process) (rest : Bound → Accumulated → TraversalResult) (g : Accumulated)
+    → Ends (Next g.names) (at_prefix T x at ρ p P rest g)
+unfolding at_prefix
+prefix_next Count x at ρ p P rest g = ends refl
+prefix_next (Judge k) x at ρ p P rest g = offered_next at ρ g p P
+prefix_next Settle x at ρ p P rest g = then_next (λ n. n) (push_next at (act ρ p P) g) (λ h. offered_next at ρ h p P)
+prefix_next (Seek q k) x at ρ p P rest g = sought_ends at ρ g refl q k x p
+prefix_next (SeekIn q c k) x at ρ p P rest g = ends refl
+prefix_next (Find f past k) x at ρ p P rest g = ends refl
+prefix_next (Build b k) x at ρ p P rest g = built_next at ρ g b x p P rest
+prefix_next (BuildIn b c k) x at ρ p P rest g = push_next at (act ρ p P) g
 
 -- What is done in copies.
 module _ (copy : Task → Accumulated → TraversalResult) where
-  pub opened-next : (T : Task) (n : ℕ) (g : Accumulated) → Ends (Next g.names) (opened copy T n g)
+  pub opened_next : (T : Task) (n : ℕ) (g : Accumulated) → Ends (Next g.names) (opened copy T n g)
   unfolding opened
-  opened-next T n g = ends-further (copy Count (named n g)) (λ h p. returned-next g.names (copy (opening T h.names) (named n g)))
+  opened_next T n g = ends_further (copy Count (named n g)) (λ h p. returned_next g.names (copy (opening T h.names) (named n g)))
 
-  pub opening-next : (o : Opening) (g : Accumulated) → Ends (Next g.names) (openedBy o copy g)
-  opening-next None g = ends refl
-  opening-next (Copy T n) g = opened-next T n g
-  opening-next (Again T n) g = returned-next g.names (copy T (named n g))
+  pub opening_next : (o : Opening) (g : Accumulated) → Ends (Next g.names) (opened_by o copy g)
+  opening_next None g = ends refl
+  opening_next (Copy T n) g = opened_next T n g
+  opening_next (Again T n) g = returned_next g.names (copy T (named n g))
 
 -- What is done with a repl thread itself, before and after.
 module _ (at : ℕ) (ρ : Bound) (P : Process) where
   pub first_next : (own : Own) (g : Accumulated) → Ends (Next g.names) (firstly own at ρ P g)
   first_next Passed g = ends refl
-  first_next Before g = push-next at (repl ρ P) g
+  first_next Before g = push_next at (repl ρ P) g
   first_next After g = ends refl
   first_next (Found k) g = ends refl
 
-  last-next : (own : Own) (g : Accumulated) → Ends (Next g.names) (lastly own at ρ P g)
-  last-next Passed g = ends refl
-  last-next Before g = ends refl
-  last-next After g = push-next at (repl ρ P) g
-  last-next (Found k) g = ends_found at k []
+  last_next : (own : Own) (g : Accumulated) → Ends (Next g.names) (lastly own at ρ P g)
+  last_next Passed g = ends refl
+  last_next Before g = ends refl
+  last_next After g = push_next at (repl ρ P) g
+  last_next (Found k) g = ends_found at k []
 
-  repl-next : (copy : Task → Accumulated → TraversalResult) (T : Task) (g : Accumulated) → Ends (Next g.names) (atRepl T at ρ P copy g)
-  repl-next copy T g =
-      let c = copiesAt T at g.names P in
-      rw (as-decided at ρ P copy g T) (then_next (λ n. n) (then_next (λ n. n) (then_next (λ n. n) (first_next c.own g)
-      (opening-next copy c.first)) (opening-next copy c.second)) (last-next c.own))
+  repl_next : (copy : Task → Accumulated → TraversalResult) (T : Task) (g : Accumulated) → Ends (Next g.names) (at_repl T at ρ P copy g)
+  repl_next copy T g =
+      let c = copies_at T at g.names P in
+      rw (as_decided at ρ P copy g T) (then_next (λ n. n) (then_next (λ n. n) (then_next (λ n. n) (first_next c.own g)
+      (opening_next copy c.first)) (opening_next copy c.second)) (last_next c.own))
 
-go-next : (P : Process) (T : Task) (x : Message) (at : ℕ) (ρ : Bound) (g : Accumulated) → Ends (Next (names P ρ g.names)) (go P T x at ρ g)
+go_next : (P : Process) (T : Task) (x : Message) (at : ℕ) (ρ : Bound) (g : Accumulated) → Ends (Next (names P ρ g.names)) (go P T x at ρ g)
 unfolding go names
-go-next Process.nil T x at ρ g = ends refl
-go-next (Process.new P) T x at ρ g = go-next P T x (at + 1) (ρ ▸ leaf (private g.names)) (named (suc g.names) g)
-go-next (Process.act p P) T x at ρ g = prefix-next T x at ρ p P (λ σ. go P Settle x (rest_at at p) σ) g
-go-next (Process.if M N P Q) T x at ρ g =
-    ends-unless (over ρ M || over ρ N) (chosen (λ c m. Ends (Next m) c) (equal (written ρ M) (written ρ N))
-    (go-next P T x (thenAt at M N) ρ g) (go-next Q T x (elseAt at M N P) ρ g))
-go-next (Process.let-in M P) T x at ρ g = ends-unless (over ρ M) (go-next P T x (body_at at M) (ρ ▸ worked ρ M) g)
-go-next (Process.par P Q) T x at ρ g = then_next (names Q ρ) (go-next P T x (at + 1) ρ g) (go-next Q T x (rightAt at P) ρ)
-go-next (Process.repl P) T x at ρ g = repl-next at ρ P (λ U. go P U x (at + 1) ρ) T g
+go_next Process.nil T x at ρ g = ends refl
+go_next (Process.new P) T x at ρ g = go_next P T x (at + 1) (ρ ▸ leaf (private g.names)) (named (suc g.names) g)
+go_next (Process.act p P) T x at ρ g = prefix_next T x at ρ p P (λ σ. go P Settle x (rest_at at p) σ) g
+go_next (Process.if M N P Q) T x at ρ g =
+    ends_unless (over ρ M || over ρ N) (chosen (λ c m. Ends (Next m) c) (equal (written ρ M) (written ρ N))
+    (go_next P T x (then_at at M N) ρ g) (go_next Q T x (else_at at M N P) ρ g))
+go_next (Process.let_in M P) T x at ρ g = ends_unless (over ρ M) (go_next P T x (body_at at M) (ρ ▸ worked ρ M) g)
+go_next (Process.par P Q) T x at ρ g = then_next (names Q ρ) (go_next P T x (at + 1) ρ g) (go_next Q T x (right_at at P) ρ)
+go_next (Process.repl P) T x at ρ g = repl_next at ρ P (λ U. go P U x (at + 1) ρ) T g
 
 -- Every task leaves the names as settling does.
-pub go-names : (P : Process) (T : Task) (x : Message) (at : ℕ) (ρ : Bound) (g h : Accumulated) → go P T x at ρ g ≡ going h
+pub go_names : (P : Process) (T : Task) (x : Message) (at : ℕ) (ρ : Bound) (g h : Accumulated) → go P T x at ρ g ≡ going h
     → h.names ≡ names P ρ g.names
-go-names P T x at ρ g h e = (go-next P T x at ρ g).at-end h e
+go_names P T x at ρ g h e = (go_next P T x at ρ g).at_end h e
 
 -- There are at most as many `new` nodes under a repl, an output or an input as in all.
-later-fewer : (P : Process) → laterNews P ≤ news P
-later-fewer Process.nil = omega arith
-later-fewer (Process.new P) = omega (arith, later-fewer P)
-later-fewer (Process.act p P) = omega arith
-later-fewer (Process.if M N P Q) = omega (arith, later-fewer P, later-fewer Q)
-later-fewer (Process.let-in M P) = later-fewer P
-later-fewer (Process.par P Q) = omega (arith, later-fewer P, later-fewer Q)
-later-fewer (Process.repl P) = omega arith
+later_fewer : (P : Process) → later_news P ≤ news P
+later_fewer Process.nil = omega arith
+later_fewer (Process.new P) = omega (arith, later_fewer P)
+later_fewer (Process.act p P) = omega arith
+later_fewer (Process.if M N P Q) = omega (arith, later_fewer P, later_fewer Q)
+later_fewer (Process.let_in M P) = later_fewer P
+later_fewer (Process.par P Q) = omega (arith, later_fewer P, later_fewer Q)
+later_fewer (Process.repl P) = omega arith
 
 -- Settling makes the names of the other ones, each at most once.
-pub names-fit : (P : Process) (ρ : Bound) (n : ℕ) → names P ρ n + laterNews P ≤ n + news P
+pub names-fit : (P : Process) (ρ : Bound) (n : ℕ) → names P ρ n + later_news P ≤ n + news P
 unfolding names
 names-fit Process.nil ρ n = omega arith
 names-fit (Process.new P) ρ n = omega (arith, names-fit P (ρ ▸ leaf (private n)) (suc n))
@@ -179,13 +179,13 @@ names-fit (Process.act p P) ρ n = omega arith
 names-fit (Process.if M N P Q) ρ n =
     let p = names-fit P ρ n in
     let q = names-fit Q ρ n in
-    chosen {B = Unit {0}} (λ m u. m + (laterNews P + laterNews Q) ≤ n + (news P + news Q)) (equal (written ρ M) (written ρ N))
-    {w = tt} {y = tt} (omega (arith, later-fewer Q)) (omega (arith, later-fewer P))
-names-fit (Process.let-in M P) ρ n = names-fit P _ n
+    chosen {B = Unit {0}} (λ m u. m + (later_news P + later_news Q) ≤ n + (news P + news Q)) (equal (written ρ M) (written ρ N))
+    {w = tt} {y = tt} (omega (arith, later_fewer Q)) (omega (arith, later_fewer P))
+names-fit (Process.let_in M P) ρ n = names-fit P _ n
 names-fit (Process.par P Q) ρ n = omega (arith, names-fit P ρ n, names-fit Q ρ (names P ρ n))
 names-fit (Process.repl P) ρ n = omega arith
 
 -- So the names of a copy or of what follows a thread fit too, after those that were taken.
-pub go-fits : (P : Process) (T : Task) (x : Message) (at : ℕ) (ρ : Bound) (g h : Accumulated) → go P T x at ρ g ≡ going h
-    → h.names + laterNews P ≤ g.names + news P
-go-fits P T x at ρ g h e = rw (go-names P T x at ρ g h e) (names-fit P ρ g.names)
+pub go_fits : (P : Process) (T : Task) (x : Message) (at : ℕ) (ρ : Bound) (g h : Accumulated) → go P T x at ρ g ≡ going h
+    → h.names + later_news P ≤ g.names + news P
+go_fits P T x at ρ g h e = rw (go_names P T x at ρ g h e) (names-fit P ρ g.names)

@@ -5,12 +5,12 @@ use Prim.Native.Nat.{ℕ}
 use native.Mathlib.Omega.{arith}
 use Rattle.meaning.specs.Messages.Term.{leaf, public}
 use Rattle.meaning.specs.Messages.Normal.{normal}
-use Rattle.meaning.proofs.Messages.{normalForms}
-use Rattle.message_bytes.specs.Encoding.{encodeMessage}
-use Rattle.buffer.specs.Word.{encodeWord}
+use Rattle.meaning.proofs.Messages.{normal_forms}
+use Rattle.message_bytes.specs.Encoding.{encode_message}
+use Rattle.buffer.specs.Word.{encode_word}
 use Rattle.state_layout.specs.Loaded.{IsRunOf}
 
 -- The run of the public name 0.
-pub argument-zero : {argument : List ℕ} → argument ≡ 16 ∷ 0 ∷ [] → IsRunOf argument (leaf (public 0))
-unfolding encodeMessage encodeWord normal
-argument-zero e = record { same = e; small = rw e (omega arith); normal = (normalForms (leaf (public 0))).0 }
+pub argument_zero : {argument : List ℕ} → argument ≡ 16 ∷ 0 ∷ [] → IsRunOf argument (leaf (public 0))
+unfolding encode_message encode_word normal
+argument_zero e = record { same = e; small = rw e (omega arith); normal = (normal_forms (leaf (public 0))).0 }

@@ -15,7 +15,7 @@ use Rattle.message_term.specs.Bound.{BoundTo}
 use Rattle.message_term.specs.Work.{TermAt, Works}
 use Rattle.message_term.specs.declared.work.Worked.{Worked}
 use Rattle.message_term.specs.declared.work.Worked.TheVariants.{Done, TooLarge}
-use Rattle.message_term.proofs.Laws.Work.{said-over, said-small}
+use Rattle.message_term.proofs.Laws.Work.{said_over, said_small}
 use Rattle.state_record.specs.Place.{ProcessAt, body_at}
 use Rattle.state_progress.specs.TraversalResult.{Accumulated, going, unless}
 use Rattle.state_task.specs.Machine.{offered}
@@ -23,42 +23,42 @@ use Rattle.state_progress.specs.Represented.{Represents, RepresentsResult}
 use Rattle.state_progress.specs.Progress.{Stopped}
 use Rattle.state_task.specs.Thread.{Judges, Offers}
 use Rattle.state_progress.specs.declared.progress.Progress.{Progress}
-use Rattle.state_record.proofs.Laws.Process.{process-kind, of_output, of-input}
-use Rattle.state_task.proofs.Laws.Bound.{bound_at, bound-still}
+use Rattle.state_record.proofs.Laws.Process.{process_kind, of_output, of_input}
+use Rattle.state_task.proofs.Laws.Bound.{bound_at, bound_still}
 
 -- A term is too large, or not.
 module _ {s m m₁ : List ℕ} {at end : ℕ} {now : Progress} {w : Worked} (f : Works s at 8 m 0 end w m₁) where
-  pub large-term : {r : Progress} → w ≡ TooLarge → Stopped now r → Judges s at m end now r
-  large-term e o = record {
+  pub large_term : {r : Progress} → w ≡ TooLarge → Stopped now r → Judges s at m end now r
+  large_term e o = record {
     stopped = λ _. o.over;
-    exact = λ t ρ g out p b d. rw (said-over _ _ _ (f.exact t ρ p (bound_at b)).answer e) o.over;
+    exact = λ t ρ g out p b d. rw (said_over _ _ _ (f.exact t ρ p (bound_at b)).answer e) o.over;
   }
 
-  pub small-term : {i j : ℕ} → w ≡ Done i j → Judges s at m end now now
-  small-term e = record {
+  pub small_term : {i j : ℕ} → w ≡ Done i j → Judges s at m end now now
+  small_term e = record {
     stopped = λ z. z;
-    exact = λ t ρ g out p b d. rw (said-small _ _ _ (f.exact t ρ p (bound_at b)).answer e).0 d;
+    exact = λ t ρ g out p b d. rw (said_small _ _ _ (f.exact t ρ p (bound_at b)).answer e).0 d;
   }
 
-pub ruleset judges = (large-term, small-term)
+pub ruleset judges = (large_term, small_term)
 
 -- The channel, and the message of an output.
 module _ {s m : List ℕ} {at end : ℕ} {now first : Progress} {kind : ℕ} (f : Judges s (at + 1) m end now first)
     (k : kind ≡ get_or s at 0) where
-  pub offers-input : kind ≡ 3 → Offers s at m end now first
+  pub offers_input : kind ≡ 3 → Offers s at m end now first
   unfolding offered
-  offers-input z = record { exact = λ p. only p }
+  offers_input z = record { exact = λ p. only p }
     where
       only : (p : Prefix) (P : Process) (ρ : Bound) (g : Accumulated) {left next : ℕ} (out : List ℕ)
           → ProcessAt s at left (length ρ) (Process.act p P) next → BoundTo m 0 ρ end → Represents s out now g
           → RepresentsResult s out first (offered ρ p P g)
-      only (output C M) P ρ g out q b d = absurd (omega (arith, (process-kind (Process.act (output C M) P) q).0))
-      only (input C) P ρ g out q b d = f.exact C ρ g out (of-input C P q) b d
+      only (output C M) P ρ g out q b d = absurd (omega (arith, (process_kind (Process.act (output C M) P) q).0))
+      only (input C) P ρ g out q b d = f.exact C ρ g out (of_input C P q) b d
 
-  pub offers-output : (kind ≡ 3 → ⊥) → {m₁ : List ℕ} {high i : ℕ} → Within end high m m₁ → TermEnd s (at + 1) i → {r : Progress}
+  pub offers_output : (kind ≡ 3 → ⊥) → {m₁ : List ℕ} {high i : ℕ} → Within end high m m₁ → TermEnd s (at + 1) i → {r : Progress}
       → Judges s i m₁ end first r → Offers s at m end now r
   unfolding offered
-  offers-output z {m₁} {high} {i} v l {r} h = record { exact = λ p. only p }
+  offers_output z {m₁} {high} {i} v l {r} h = record { exact = λ p. only p }
     where
       after : (C M : Term) (ρ : Bound) (g : Accumulated) (out : List ℕ) {next : ℕ} → TermAt s i 8 (length ρ) M next → BoundTo m₁ 0 ρ end
           → (a : Bool) → RepresentsResult s out first (unless a (going g)) → RepresentsResult s out r (unless (a || over ρ M) (going g))
@@ -71,7 +71,7 @@ module _ {s m : List ℕ} {at end : ℕ} {now first : Progress} {kind : ℕ} (f 
       only (output C M) P ρ g out q b d =
           let (c, n) = of_output C M P q in
           let here : i ≡ body_at at C = l.same C c.stands in
-          after C M ρ g out (rw (← here) at n) (bound-still b v) (over ρ C) (f.exact C ρ g out c b d)
-      only (input C) P ρ g out q b d = absurd (z (k ∙ (process-kind (Process.act (input C) P) q).0))
+          after C M ρ g out (rw (← here) at n) (bound_still b v) (over ρ C) (f.exact C ρ g out c b d)
+      only (input C) P ρ g out q b d = absurd (z (k ∙ (process_kind (Process.act (input C) P) q).0))
 
-pub ruleset offers = (offers-input, offers-output)
+pub ruleset offers = (offers_input, offers_output)

@@ -10,21 +10,21 @@ use Rattle.state_record.specs.declared.state.Grown.{Grown}
 use Rattle.state_record.specs.declared.state.Grown.TheVariants.{To, Full}
 
 -- A state is one thing, none another.
-to-or-full : {f : State} → To f ≡ Full → ⊥
-to-or-full e = let z : ◌≡◌ {A = ℕ} 0 1 = cc in omega arith
+to_or_full : {f : State} → To f ≡ Full → ⊥
+to_or_full e = let z : ◌≡◌ {A = ℕ} 0 1 = cc in omega arith
 
 module _ {st : State} {nodes size long : ℕ} where
   no_room : (RoomForThread st nodes size long → ⊥) → Grows st nodes size long Full
-  no_room f = record { room = λ g e. absurd (to-or-full (sym e)); state = λ g e. absurd (to-or-full (sym e)); none = λ e. f }
+  no_room f = record { room = λ g e. absurd (to_or_full (sym e)); state = λ g e. absurd (to_or_full (sym e)); none = λ e. f }
 
-  pub threads-full : 32 ≤ st.threads → Grows st nodes size long Full
-  threads-full h = no_room (λ p. omega (arith, p.threads))
+  pub threads_full : 32 ≤ st.threads → Grows st nodes size long Full
+  threads_full h = no_room (λ p. omega (arith, p.threads))
 
-  pub nodes-over : 1024 < st.nodes → Grows st nodes size long Full
-  nodes-over h = no_room (λ p. omega (arith, p.total))
+  pub nodes_over : 1024 < st.nodes → Grows st nodes size long Full
+  nodes_over h = no_room (λ p. omega (arith, p.total))
 
-  pub nodes-full : 1024 - st.nodes < nodes → st.nodes ≤ 1024 → Grows st nodes size long Full
-  nodes-full h l = no_room (λ p. omega (arith, p.total))
+  pub nodes_full : 1024 - st.nodes < nodes → st.nodes ≤ 1024 → Grows st nodes size long Full
+  nodes_full h l = no_room (λ p. omega (arith, p.total))
 
   pub too_long : 2072 < size → Grows st nodes size long Full
   too_long h = no_room (λ p. omega (arith, p.short))
@@ -35,7 +35,7 @@ module _ {st : State} {nodes size long : ℕ} where
   pub few_bytes : long - st.end < 4 + size → Grows st nodes size long Full
   few_bytes h = no_room (λ p. omega (arith, p.bytes))
 
-  pub some-room : st.threads < 32 → st.nodes ≤ 1024 → nodes ≤ 1024 - st.nodes → size ≤ 2072 → st.end ≤ long
+  pub some_room : st.threads < 32 → st.nodes ≤ 1024 → nodes ≤ 1024 - st.nodes → size ≤ 2072 → st.end ≤ long
       → 4 + size ≤ long - st.end → Grows st nodes size long
       (To (record {
         aliases = st.aliases;
@@ -45,23 +45,23 @@ module _ {st : State} {nodes size long : ℕ} where
         nodes = st.nodes + nodes;
         names = st.names;
       }))
-  some-room t o n z e b = record {
+  some_room t o n z e b = record {
     room = λ f g. record { threads = t; total = omega arith; short = z; bytes = omega arith };
     state = λ f g. cc;
-    none = λ g. absurd (to-or-full g);
+    none = λ g. absurd (to_or_full g);
   }
 
-pub ruleset grows = (threads-full, nodes-over, nodes-full, too_long, no_bytes, few_bytes, some-room)
+pub ruleset grows = (threads_full, nodes_over, nodes_full, too_long, no_bytes, few_bytes, some_room)
 
 -- What the record of the thread takes.
 module _ {st f : State} {nodes long : ℕ} (end : ℕ) {r : Grown} (m : List ℕ) (w : Grows st nodes end long r) (y : r ≡ To f) where
   longest : length (take (end - 0) m) ≤ end
   longest = omega (arith, length-take (end - 0) m)
 
-  pub record-room : st.end + 4 + length (take (end - 0) m) ≤ long
-  record-room = omega (arith, longest, (w.room f y).bytes)
+  pub record_room : st.end + 4 + length (take (end - 0) m) ≤ long
+  record_room = omega (arith, longest, (w.room f y).bytes)
 
-  pub record-short : length (take (end - 0) m) < 65536
-  record-short = omega (arith, longest, (w.room f y).short)
+  pub record_short : length (take (end - 0) m) < 65536
+  record_short = omega (arith, longest, (w.room f y).short)
 
-pub ruleset record-rooms = (record-room, record-short)
+pub ruleset record_rooms = (record_room, record_short)

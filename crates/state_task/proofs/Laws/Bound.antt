@@ -12,8 +12,8 @@ pub bound_at : {m : List ℕ} {end : ℕ} {ρ : Bound} → BoundTo m 0 ρ end �
 bound_at {end} b = record { end = end; bound = b; below = omega arith }
 
 -- A term worked above them leaves them bound.
-pub bound-still : {m m₁ : List ℕ} {end high : ℕ} {ρ : Bound} → BoundTo m 0 ρ end → Within end high m m₁ → BoundTo m₁ 0 ρ end
-bound-still {m} {m₁} {end} b w = record {
+pub bound_still : {m m₁ : List ℕ} {end high : ℕ} {ρ : Bound} → BoundTo m 0 ρ end → Within end high m m₁ → BoundTo m₁ 0 ρ end
+bound_still {m} {m₁} {end} b w = record {
   stands = kept {low = end} b.stands (omega arith) w.below;
   few = b.few;
   normal = b.normal;

@@ -7,11 +7,11 @@ use lib.Dec.{ltb, eqb}
 use lib.ListN.{length}
 use Rattle.meaning.specs.Bytes.Process.{Process}
 use Rattle.meaning.specs.Steps.State.{Bound, repl}
-use Rattle.meaning.specs.Judging.Limits.{boundNodes}
-use Rattle.state_progress.specs.TraversalResult.{Accumulated, TraversalResult, going, over-limit, found, further, unless, push}
-use Rattle.state_task.specs.Machine.{contains, opened, sending, taking, soughtIn, builtCopy, builtCopies, atRepl}
-use Rattle.state_task.specs.Copies.{one, within, seeking, target, seekingIn, passes, finding, taken, builder, rebuilt, buildingIn}
-use Rattle.state_task.specs.Copies.{copiesAt, openedBy, performed}
+use Rattle.meaning.specs.Judging.Limits.{bound_nodes}
+use Rattle.state_progress.specs.TraversalResult.{Accumulated, TraversalResult, going, over_limit, found, further, unless, push}
+use Rattle.state_task.specs.Machine.{contains, opened, sending, taking, sought_in, built_copy, built_copies, at_repl}
+use Rattle.state_task.specs.Copies.{one, within, seeking, target, seeking_in, passes, finding, taken, builder, rebuilt, building_in}
+use Rattle.state_task.specs.Copies.{copies_at, opened_by, performed}
 use Rattle.state_task.specs.declared.task.Task.{Task}
 use Rattle.state_task.specs.declared.task.Task.TheVariants.{Count, Judge, Settle, Seek, SeekIn, Find, Build, BuildIn}
 use Rattle.state_task.specs.declared.task.Quest.{Quest}
@@ -25,7 +25,7 @@ use Rattle.state_task.specs.declared.opening.Copies.{Copies}
 -- Nothing comes next.
 pub no_more : (c : TraversalResult) → further c (λ g. going g) ≡ c
 no_more (going g) = refl
-no_more over-limit = refl
+no_more over_limit = refl
 no_more (found x n ms) = refl
 
 -- A test that decides what is done decides what it comes to.
@@ -39,7 +39,7 @@ module _ (at : ℕ) (ρ : Bound) (P : Process) (copy : Task → Accumulated → 
   done c = performed c at ρ P copy g
 
   abbrev by : Opening → TraversalResult
-  by o = openedBy o copy g
+  by o = opened_by o copy g
 
   -- One copy alone, or before the thread is found or written.
   alone : (o : Opening) → by o ≡ done (one Passed o)
@@ -48,8 +48,8 @@ module _ (at : ℕ) (ρ : Bound) (P : Process) (copy : Task → Accumulated → 
   then_found : (k : ℕ) (o : Opening) → further (by o) (λ h. found at k []) ≡ done (one (Found k) o)
   then_found k o = ap (λ c. further c (λ h. found at k [])) (sym (no_more (by o)))
 
-  then-written : (o : Opening) → further (by o) (push at (repl ρ P)) ≡ done (one After o)
-  then-written o = ap (λ c. further c (push at (repl ρ P))) (sym (no_more (by o)))
+  then_written : (o : Opening) → further (by o) (push at (repl ρ P)) ≡ done (one After o)
+  then_written o = ap (λ c. further c (push at (repl ρ P))) (sym (no_more (by o)))
 
   -- It is written, and then a copy is judged.
   judged : (b : Bool) (h : Accumulated) → h.names ≡ g.names
@@ -62,30 +62,30 @@ module _ (at : ℕ) (ρ : Bound) (P : Process) (copy : Task → Accumulated → 
       ≡ done (one Before (Copy (Judge g.names) g.names))
   unfolding push
   settling =
-      judged (ltb 32 (suc (length g.threads)) || ltb 1024 (g.nodes + boundNodes ρ)) (record {
+      judged (ltb 32 (suc (length g.threads)) || ltb 1024 (g.nodes + bound_nodes ρ)) (record {
         names = g.names;
-        nodes = g.nodes + boundNodes ρ;
+        nodes = g.nodes + bound_nodes ρ;
         threads = g.threads ++ (record { place = at; thread = repl ρ P } ∷ []);
       }) refl
 
-  sought-in : (q : Quest) (c : CopyAt) (k : ℕ) → soughtIn q c k copy g ≡ by (target q c k)
-  unfolding soughtIn target
+  sought-in : (q : Quest) (c : CopyAt) (k : ℕ) → sought_in q c k copy g ≡ by (target q c k)
+  unfolding sought_in target
   sought-in q c k = either by (eqb c.arity 0) refl (either by (eqb c.arity 1) refl refl)
 
-  built-copy : (b : Plan) (k : ℕ) → builtCopy b k at P copy g ≡ by (builder b k at P)
-  unfolding builtCopy builder within taken
+  built-copy : (b : Plan) (k : ℕ) → built_copy b k at P copy g ≡ by (builder b k at P)
+  unfolding built_copy builder within taken
   built-copy b k =
       either by (contains b.sender (at + 1) P) refl
       (either by (contains b.taker (at + 1) P) (either by (eqb b.sender 0) refl refl) refl)
 
   built_in : (b : Plan) (c : CopyAt) (k : ℕ) (here inside : Bool) → further (elim here [
-    | true ↦ builtCopies b c k copy g
+    | true ↦ built_copies b c k copy g
     | false ↦ elim inside [ true ↦ opened copy (BuildIn b c k) k g | false ↦ going g ]
   ]) (push at (repl ρ P)) ≡ done (elim here [
     | true ↦ rebuilt b c k
     | false ↦ one After (elim inside [ true ↦ Copy (BuildIn b c k) k | false ↦ None ])
   ])
-  unfolding builtCopies rebuilt
+  unfolding built_copies rebuilt
   built_in b c k true inside = by_mode (eqb c.arity 2)
     where
       by_mode : (two : Bool) → further (elim two [
@@ -96,33 +96,33 @@ module _ (at : ℕ) (ρ : Bound) (P : Process) (copy : Task → Accumulated → 
         | false ↦ one After (Copy (Build b k) k)
       ])
       by_mode true = refl
-      by_mode false = then-written (Copy (Build b k) k)
-  built_in b c k false true = then-written (Copy (BuildIn b c k) k)
+      by_mode false = then_written (Copy (Build b k) k)
+  built_in b c k false true = then_written (Copy (BuildIn b c k) k)
   built_in b c k false false = refl
 
-  found-or-not : (f k : ℕ) (past here before : Bool) → (elim here [
+  found_or_not : (f k : ℕ) (past here before : Bool) → (elim here [
     | true ↦ elim past [ true ↦ going g | false ↦ found at k [] ]
     | false ↦ elim before [ true ↦ going g | false ↦ further (opened copy (Find f past k) k g) (λ h. found at k []) ]
   ]) ≡ done (elim (elim here as (λ x. Bool) [ true ↦ past | false ↦ before ]) [
     | true ↦ one Passed None
     | false ↦ one (Found k) (elim here [ true ↦ None | false ↦ Copy (Find f past k) k ])
   ])
-  found-or-not f k true true before = refl
-  found-or-not f k false true before = refl
-  found-or-not f k past false true = refl
-  found-or-not f k past false false = then_found k (Copy (Find f past k) k)
+  found_or_not f k true true before = refl
+  found_or_not f k false true before = refl
+  found_or_not f k past false true = refl
+  found_or_not f k past false false = then_found k (Copy (Find f past k) k)
 
   -- For every task.
-  pub as-decided : (T : Task) → atRepl T at ρ P copy g ≡ done (copiesAt T at g.names P)
-  unfolding atRepl within seeking seekingIn passes finding buildingIn
-  as-decided Count = refl
-  as-decided (Judge k) = alone (Copy (Judge k) k)
-  as-decided Settle = settling
-  as-decided (Seek q k) = either by (contains q.excluded (at + 1) P) refl refl ∙ alone (seeking q k at P)
-  as-decided (SeekIn q c k) =
+  pub as_decided : (T : Task) → at_repl T at ρ P copy g ≡ done (copies_at T at g.names P)
+  unfolding at_repl within seeking seeking_in passes finding building_in
+  as_decided Count = refl
+  as_decided (Judge k) = alone (Copy (Judge k) k)
+  as_decided Settle = settling
+  as_decided (Seek q k) = either by (contains q.excluded (at + 1) P) refl refl ∙ alone (seeking q k at P)
+  as_decided (SeekIn q c k) =
       either by (eqb (at + 1) c.place) (sought-in q c k) (either by (contains c.place (at + 1) P) refl refl)
-      ∙ alone (seekingIn q c k at P)
-  as-decided (Find f past k) =
-      found-or-not f k past (eqb (at + 1) f) (ltb (at + 1) f && not (contains f (at + 1) P))
-  as-decided (Build b k) = ap (λ c. further c (push at (repl ρ P))) (built-copy b k) ∙ then-written (builder b k at P)
-  as-decided (BuildIn b c k) = built_in b c k (eqb (at + 1) c.place) (contains c.place (at + 1) P)
+      ∙ alone (seeking_in q c k at P)
+  as_decided (Find f past k) =
+      found_or_not f k past (eqb (at + 1) f) (ltb (at + 1) f && not (contains f (at + 1) P))
+  as_decided (Build b k) = ap (λ c. further c (push at (repl ρ P))) (built-copy b k) ∙ then_written (builder b k at P)
+  as_decided (BuildIn b c k) = built_in b c k (eqb (at + 1) c.place) (contains c.place (at + 1) P)

@@ -10,37 +10,37 @@ use Rattle.state_task.specs.declared.task.CopyAt.{CopyAt}
 use Rattle.state_task.specs.declared.task.Plan.{Plan}
 
 module _ {T : Task} (n : ℕ) where
-  pub opens-count : T ≡ Count → Count ≡ opening T n
+  pub opens_count : T ≡ Count → Count ≡ opening T n
   unfolding opening
-  opens-count e = rw e
+  opens_count e = rw e
 
-  pub opens-judge : {k : ℕ} → T ≡ Judge k → Judge n ≡ opening T n
+  pub opens_judge : {k : ℕ} → T ≡ Judge k → Judge n ≡ opening T n
   unfolding opening
-  opens-judge e = rw e
+  opens_judge e = rw e
 
-  pub opens-settle : T ≡ Settle → Settle ≡ opening T n
+  pub opens_settle : T ≡ Settle → Settle ≡ opening T n
   unfolding opening
-  opens-settle e = rw e
+  opens_settle e = rw e
 
-  pub opens-seek : {q : Quest} {k : ℕ} → T ≡ Seek q k → Seek q n ≡ opening T n
+  pub opens_seek : {q : Quest} {k : ℕ} → T ≡ Seek q k → Seek q n ≡ opening T n
   unfolding opening
-  opens-seek e = rw e
+  opens_seek e = rw e
 
-  pub opens-seek-in : {q : Quest} {c : CopyAt} {k : ℕ} → T ≡ SeekIn q c k → SeekIn q c n ≡ opening T n
+  pub opens_seek_in : {q : Quest} {c : CopyAt} {k : ℕ} → T ≡ SeekIn q c k → SeekIn q c n ≡ opening T n
   unfolding opening
-  opens-seek-in e = rw e
+  opens_seek_in e = rw e
 
-  pub opens-find : {f k : ℕ} {past : Bool} → T ≡ Find f past k → Find f past n ≡ opening T n
+  pub opens_find : {f k : ℕ} {past : Bool} → T ≡ Find f past k → Find f past n ≡ opening T n
   unfolding opening
-  opens-find e = rw e
+  opens_find e = rw e
 
-  pub opens-build : {b : Plan} {k : ℕ} → T ≡ Build b k → Build b n ≡ opening T n
+  pub opens_build : {b : Plan} {k : ℕ} → T ≡ Build b k → Build b n ≡ opening T n
   unfolding opening
-  opens-build e = rw e
+  opens_build e = rw e
 
-  pub opens-build-in : {b : Plan} {c : CopyAt} {k : ℕ} → T ≡ BuildIn b c k → BuildIn b c n ≡ opening T n
+  pub opens_build_in : {b : Plan} {c : CopyAt} {k : ℕ} → T ≡ BuildIn b c k → BuildIn b c n ≡ opening T n
   unfolding opening
-  opens-build-in e = rw e
+  opens_build_in e = rw e
 
 pub ruleset openings =
-    (opens-count, opens-judge, opens-settle, opens-seek, opens-seek-in, opens-find, opens-build, opens-build-in)
+    (opens_count, opens_judge, opens_settle, opens_seek, opens_seek_in, opens_find, opens_build, opens_build_in)

@@ -6,7 +6,7 @@ use Prim.Native.Nat.{ℕ, ◌+◌, ◌≤◌, ◌<◌}
 use native.Mathlib.Omega.{arith}
 use borrow.Author.Tests.{lt-ltb, le-ltb}
 use lib.ListN.{length}
-use Rattle.meaning.specs.Bytes.Encoding.{encodeProcess}
+use Rattle.meaning.specs.Bytes.Encoding.{encode_process}
 use Rattle.index_process.specs.Index.{Ends}
 use Rattle.state_task.specs.Machine.{contains}
 use Rattle.state_task.specs.Place.{Chosen, Contains}
@@ -15,29 +15,29 @@ module _ {s : List ℕ} {at : ℕ} {same : Bool} where
   pub takes_first : same ≡ true → Chosen s at same at
   takes_first e = record { first = λ f. refl; second = λ f. absurd (true≢false (sym e ∙ f)) }
 
-  pub takes-second : {r : ℕ} → same ≡ false → Ends s at r → Chosen s at same r
-  takes-second e p = record { first = λ f. absurd (true≢false (sym f ∙ e)); second = λ f. p }
+  pub takes_second : {r : ℕ} → same ≡ false → Ends s at r → Chosen s at same r
+  takes_second e p = record { first = λ f. absurd (true≢false (sym f ∙ e)); second = λ f. p }
 
-pub ruleset chosens = (takes_first, takes-second)
+pub ruleset chosens = (takes_first, takes_second)
 
 -- A mark is behind the process, or in it, or before it.
 module _ {s : List ℕ} {at mark : ℕ} where
-  pub before-it : mark ≤ at → Contains s at mark false
+  pub before_it : mark ≤ at → Contains s at mark false
   unfolding contains
-  before-it h = record { exact = λ P p. rw (le-ltb at mark h) }
+  before_it h = record { exact = λ P p. rw (le-ltb at mark h) }
 
-  pub in-it : {r : ℕ} → at < mark → Ends s at r → mark ≤ r → Contains s at mark true
+  pub in_it : {r : ℕ} → at < mark → Ends s at r → mark ≤ r → Contains s at mark true
   unfolding contains
-  in-it h l k = record {
+  in_it h l k = record {
     exact = λ P p.
-        rw (lt-ltb at mark h, le-ltb (at + length (encodeProcess P)) mark (omega (arith, l.same P p, p.stands.size)));
+        rw (lt-ltb at mark h, le-ltb (at + length (encode_process P)) mark (omega (arith, l.same P p, p.stands.size)));
   }
 
-  pub behind-it : {r : ℕ} → at < mark → Ends s at r → r < mark → Contains s at mark false
+  pub behind_it : {r : ℕ} → at < mark → Ends s at r → r < mark → Contains s at mark false
   unfolding contains
-  behind-it h l k = record {
+  behind_it h l k = record {
     exact = λ P p.
-        rw (lt-ltb at mark h, lt-ltb (at + length (encodeProcess P)) mark (omega (arith, l.same P p, p.stands.size)));
+        rw (lt-ltb at mark h, lt-ltb (at + length (encode_process P)) mark (omega (arith, l.same P p, p.stands.size)));
   }
 
-pub ruleset marks = (before-it, in-it, behind-it)
+pub ruleset marks = (before_it, in_it, behind_it)

@@ -12,119 +12,119 @@ use Rattle.meaning.specs.Places.{Every}
 use Rattle.meaning.specs.Bytes.Standing.{Stands}
 use Rattle.meaning.specs.Steps.State.{worked}
 use Rattle.meaning.specs.Steps.Offer.{Split}
-use Rattle.message_bytes.specs.Encoding.{encodeMessage}
+use Rattle.message_bytes.specs.Encoding.{encode_message}
 use Rattle.buffer.specs.Buffer.{Within}
 use Rattle.buffer.proofs.Laws.Buffer.{part}
-use Rattle.state_record.specs.Record.{Placed, encodeRecords}
-use Rattle.state_progress.specs.Represented.{encodeMessages}
-use Rattle.step_located.specs.CopyStep.{messageOf}
-use Rattle.step_located.proofs.Laws.Increasing.{Increasing, increasing-lower, acting-increasing}
+use Rattle.state_record.specs.Record.{Placed, encode_records}
+use Rattle.state_progress.specs.Represented.{encode_messages}
+use Rattle.step_located.specs.CopyStep.{message_of}
+use Rattle.step_located.proofs.Laws.Increasing.{Increasing, increasing_lower, acting_increasing}
 use Rattle.step_located.proofs.Laws.Everywhere.{every_first}
 use Rattle.step_located.proofs.Laws.Copies.{split_at}
 use Rattle.step_located.specs.Located.{LocatedOffer}
 use Rattle.step_transition.specs.Moves.{Move}
-use Rattle.step_transition.specs.Focus.{Focus, focuses, focusesFrom, recordAt, offersOf}
+use Rattle.step_transition.specs.Focus.{Focus, focuses, focuses_from, record_at, offers_of}
 use Rattle.step_transition.specs.Threads.{Threads}
 use Rattle.state_layout.specs.Loaded.{IsRunOf}
 use Rattle.step_offer.specs.Seek.{Sees, ShowsSight}
 use Rattle.step_offer.specs.Hand.{Hands}
-use Rattle.step_transition.specs.CopyOffers.{outputs, channelOf}
-use Rattle.step_transition.specs.CopyMoves.{laterFocuses, Roomy}
+use Rattle.step_transition.specs.CopyOffers.{outputs, channel_of}
+use Rattle.step_transition.specs.CopyMoves.{later_focuses, Roomy}
 use Rattle.step_transition.specs.Step.{run_of}
-use Rattle.step_between.specs.Between.{Party, sendersFrom, takersFrom, betweenFrom, sight_of, Ahead, IsAhead, NextSender, Takes, Pairs}
+use Rattle.step_between.specs.Between.{Party, senders_from, takers_from, between_from, sight_of, Ahead, IsAhead, NextSender, Takes, Pairs}
 use Rattle.step_between.specs.Between.{NextMeeting, Betweens}
 use Rattle.step_offer.specs.declared.hand.Handed.{Handed}
 use Rattle.step_offer.specs.declared.seek.Sighting.{Sighting}
 use Rattle.step_label.specs.declared.step.Next.{Next}
 use Rattle.step_label.specs.declared.step.Next.TheVariants.{None, Found}
 use Rattle.step_label.specs.declared.step.Step as code
-use Rattle.step_transition.proofs.Laws.Threads.{threads-kept, threads-from}
-use Rattle.step_between.proofs.Laws.BetweenLists.{Resumes, parties-resumed}
-use Rattle.step_between.proofs.Laws.BetweenSought.{Placing, parties-placed}
-use Rattle.step_between.proofs.Laws.Between.{sender-known}
-use Rattle.step_between.specs.Buffered.{channelRun, Answered}
-use Rattle.step_between.proofs.Laws.Buffered.{answered-more, answered-next}
+use Rattle.step_transition.proofs.Laws.Threads.{threads_kept, threads_from}
+use Rattle.step_between.proofs.Laws.BetweenLists.{Resumes, parties_resumed}
+use Rattle.step_between.proofs.Laws.BetweenSought.{Placing, parties_placed}
+use Rattle.step_between.proofs.Laws.Between.{sender_known}
+use Rattle.step_between.specs.Buffered.{channel_run, Answered}
+use Rattle.step_between.proofs.Laws.Buffered.{answered_more, answered_next}
 use Rattle.step_between.proofs.Laws.BetweenOffers.{Sending}
-use Rattle.step_transition.proofs.Laws.Roomy.{still-roomy}
+use Rattle.step_transition.proofs.Laws.Roomy.{still_roomy}
 use Rattle.index_process.specs.Index.{ShortModel}
 
 -- The part of a slice that is the run of a sender's channel is a label.
-pub channel-label : {argument : List ℕ} {k long : ℕ} (a : LocatedOffer) → Sending k long a → argument ≡ encodeMessage (channelOf a)
-    → IsRunOf argument (channelOf a)
-channel-label a sending e = record { same = e; small = rw e sending.sent.channel; normal = sending.sent.normal }
+pub channel_label : {argument : List ℕ} {k long : ℕ} (a : LocatedOffer) → Sending k long a → argument ≡ encode_message (channel_of a)
+    → IsRunOf argument (channel_of a)
+channel_label a sending e = record { same = e; small = rw e sending.sent.channel; normal = sending.sent.normal }
 
 pub pairs : {s : List ℕ} {start to : ℕ} {m : List ℕ} {now : Sighting} {out channel message on said : List ℕ} {h : Handed} {r : Next}
     → Hands out now.done.sent h on said → length on ≡ length channel → length said ≡ length message
     → Takes s (take (h.channel - 0) (drop 0 on)) to m (record { at = now.at; mark = now.done.mark; next = now.done.names }) start 0 out
     h.message r
     → Pairs s start to m now out channel message r on said
-unfolding encodeMessages encodeRecords channelRun run_of
+unfolding encode_messages encode_records channel_run run_of
 pairs {s} {start} {to} {m} {now} {out} {channel} {message} {on} {said} {h} {r} hands same size v = record {
   exact = λ k x ps ls ts w others threads room long split senders sees.
       let a = w.offer in
-      let sending = (sender-known x ps ls ts threads split room.short room.few senders).sending in
-      let M = worked a.bound (messageOf a.prefix) in
-      let messages : Stands out now.done.sent (encodeMessages (channelOf a ∷ M ∷ [])) now.done.state.end =
-      subst (λ xs. Stands out now.done.sent (encodeMessages xs) now.done.state.end) sending.sent.messages sees.messages in
-      let (first, second) = hands.exact (channelOf a) M messages (omega (arith, sending.sent.channel))
+      let sending = (sender_known x ps ls ts threads split room.short room.few senders).sending in
+      let M = worked a.bound (message_of a.prefix) in
+      let messages : Stands out now.done.sent (encode_messages (channel_of a ∷ M ∷ [])) now.done.state.end =
+      subst (λ xs. Stands out now.done.sent (encode_messages xs) now.done.state.end) sending.sent.messages sees.messages in
+      let (first, second) = hands.exact (channel_of a) M messages (omega (arith, sending.sent.channel))
       (omega (arith, sending.sent.message, room.long)) in
-      let sized : h.channel ≡ length (encodeMessage (channelOf a)) = omega (arith, first.size) in
-      let sized' : h.message ≡ length (encodeMessage M) = omega (arith, second.size) in
+      let sized : h.channel ≡ length (encode_message (channel_of a)) = omega (arith, first.size) in
+      let sized' : h.message ≡ length (encode_message M) = omega (arith, second.size) in
       v.exact start k x ps ls ts [] ps w others on said message threads room split refl (omega arith) senders
-      (rw (sees.at, sees.mark, sees.next)) (channel-label a sending (part first)) sized'
+      (rw (sees.at, sees.mark, sees.next)) (channel_label a sending (part first)) sized'
       (λ u. record { on = rw sized at first; sent = rw sized' at second });
 }
 
 -- The senders behind the first of senders.
-pub offers-increase : (k : ℕ) (p : Focus) → Increasing 0 (offersOf p.thread k)
-offers-increase k p = increasing-lower (omega arith) (acting-increasing _ _ _ 0 k)
+pub offers_increase : (k : ℕ) (p : Focus) → Increasing 0 (offers_of p.thread k)
+offers_increase k p = increasing_lower (omega arith) (acting_increasing _ _ _ 0 k)
 
-pub senders-resumed : (k x : ℕ) (ls ts : List Placed) {before others : List Party} {w : Party}
-    → Split (sendersFrom k x (focusesFrom ls ts)) before w others
-    → Resumes (outputs 0) (leaf (public 0)) (λ p. offersOf p.thread k) (ls ++ ts) w others
-unfolding sendersFrom
-senders-resumed k x ls ts s =
-    parties-resumed (outputs 0) (leaf (public 0)) (λ p. offersOf p.thread k) (offers-increase k) x ls ts s
+pub senders_resumed : (k x : ℕ) (ls ts : List Placed) {before others : List Party} {w : Party}
+    → Split (senders_from k x (focuses_from ls ts)) before w others
+    → Resumes (outputs 0) (leaf (public 0)) (λ p. offers_of p.thread k) (ls ++ ts) w others
+unfolding senders_from
+senders_resumed k x ls ts s =
+    parties_resumed (outputs 0) (leaf (public 0)) (λ p. offers_of p.thread k) (offers_increase k) x ls ts s
 
 module _ {s : List ℕ} {start k to : ℕ} {m : List ℕ} {now : Sighting} {out channel message : List ℕ} where
-  pub onward-found : {answer : Next} {step : code.Step} {on said : List ℕ} → Pairs s start to m now out channel message answer on said
+  pub onward_found : {answer : Next} {step : code.Step} {on said : List ℕ} → Pairs s start to m now out channel message answer on said
       → answer ≡ Found step → NextMeeting s start k to m now out channel message (Found step) on said
   unfolding flat_map
-  onward-found {answer} {step} {on} {said} v e = record {
+  onward_found {answer} {step} {on} {said} v e = record {
     exact = λ x ps ls ts w others threads room long split senders sees.
-        answered-more start on said step (takersFrom w 0 (focuses ps)) (flat_map (λ v. takersFrom v 0 (focuses ps)) others)
-        (subst (λ a. Answered start on said a (takersFrom w 0 (focuses ps))) e (v.exact k x ps ls ts w others threads room long split senders sees));
+        answered_more start on said step (takers_from w 0 (focuses ps)) (flat_map (λ v. takers_from v 0 (focuses ps)) others)
+        (subst (λ a. Answered start on said a (takers_from w 0 (focuses ps))) e (v.exact k x ps ls ts w others threads room long split senders sees));
   }
 
-  pub onward-none : {answer : Next} {on₁ said₁ on said m₁ out₁ : List ℕ} {high : ℕ} {r : Next}
+  pub onward_none : {answer : Next} {on₁ said₁ on said m₁ out₁ : List ℕ} {high : ℕ} {r : Next}
       → Pairs s start to m now out channel message answer on₁ said₁ → answer ≡ None → Within 0 high m m₁ → Within to (length out) out out₁
       → length on₁ ≡ length channel → length said₁ ≡ length message
       → Betweens s start now.at k to m₁ now.done.mark out₁ on₁ said₁ r on said → NextMeeting s start k to m now out channel message r on said
-  unfolding flat_map betweenFrom sendersFrom focusesFrom
-  onward-none {answer} {on₁} {said₁} {on} {said} {m₁} {out₁} {high} {r} v e wm wo same size b = record {
+  unfolding flat_map between_from senders_from focuses_from
+  onward_none {answer} {on₁} {said₁} {on} {said} {m₁} {out₁} {high} {r} v e wm wo same size b = record {
     exact = λ x ps ls ts w others threads room long split senders sees.
         let p = w.focus in
-        let mine = takersFrom w 0 (focuses ps) in
-        let theirs : List Party → List Move = flat_map (λ v. takersFrom v 0 (focuses ps)) in
+        let mine = takers_from w 0 (focuses ps) in
+        let theirs : List Party → List Move = flat_map (λ v. takers_from v 0 (focuses ps)) in
         let none = subst (λ a. Answered start on₁ said₁ a mine) e (v.exact k x ps ls ts w others threads room long split senders sees) in
-        let again = senders-resumed k x ls ts (split_at [] senders) in
-        let rest = b.exact ps p.before (p.thread ∷ p.behind) (threads-kept ps wo (omega arith) threads) (still-roomy wm wo size room)
+        let again = senders_resumed k x ls ts (split_at [] senders) in
+        let rest = b.exact ps p.before (p.thread ∷ p.behind) (threads_kept ps wo (omega arith) threads) (still_roomy wm wo size room)
         (omega arith) (split ∙ again.parts) sees.at in
-        let left : sendersFrom k now.done.mark (p ∷ laterFocuses p) ≡ others =
-        ap (λ n. sendersFrom k n (p ∷ laterFocuses p)) sees.mark ∙ again.on in
-        answered-next start on₁ said₁ on said r mine (theirs others) none (subst (λ us. Answered start on said r (theirs us)) left rest);
+        let left : senders_from k now.done.mark (p ∷ later_focuses p) ≡ others =
+        ap (λ n. senders_from k n (p ∷ later_focuses p)) sees.mark ∙ again.on in
+        answered_next start on₁ said₁ on said r mine (theirs others) none (subst (λ us. Answered start on said r (theirs us)) left rest);
   }
 
 -- The first sender follows where it was sought.
-sender-ahead : {s out : List ℕ} {start at k to : ℕ} (x : ℕ) (ps ls ts : List Placed) (w : Party) (others : List Party) (r : Sighting)
-    → Threads s out start k ps to → ps ≡ ls ++ ts → at ≡ start + length (encodeRecords ls) → ShortModel s → k ≤ 128
-    → sendersFrom k x (focusesFrom ls ts) ≡ w ∷ others → {after : List ℕ} → Sees after r (recordAt start w.focus) w.offer
+sender_ahead : {s out : List ℕ} {start at k to : ℕ} (x : ℕ) (ps ls ts : List Placed) (w : Party) (others : List Party) (r : Sighting)
+    → Threads s out start k ps to → ps ≡ ls ++ ts → at ≡ start + length (encode_records ls) → ShortModel s → k ≤ 128
+    → senders_from k x (focuses_from ls ts) ≡ w ∷ others → {after : List ℕ} → Sees after r (record_at start w.focus) w.offer
     → Ahead at x to (length s) r.at r.done.mark
-unfolding sendersFrom
-sender-ahead {s} {out} {start} {at} {k} {to} x ps ls ts w others r threads split here short few senders sees =
-    let known = sender-known x ps ls ts threads split short few senders in
+unfolding senders_from
+sender_ahead {s} {out} {start} {at} {k} {to} x ps ls ts w others r threads split here short few senders sees =
+    let known = sender_known x ps ls ts threads split short few senders in
     let placing : Placing x ls w =
-    every_first (subst (λ us. Every (Placing x ls) us) senders (parties-placed (outputs 0) (leaf (public 0)) (λ p. offersOf p.thread k) x ls ts)) in
+    every_first (subst (λ us. Every (Placing x ls) us) senders (parties_placed (outputs 0) (leaf (public 0)) (λ p. offers_of p.thread k) x ls ts)) in
     record {
       some = omega (arith, sees.mark);
       within = omega (arith, sees.mark, known.sending.within);
@@ -135,48 +135,48 @@ sender-ahead {s} {out} {start} {at} {k} {to} x ps ls ts w others r threads split
 
 module _ {s : List ℕ} {start at k to : ℕ} {m : List ℕ} {x : ℕ} {out message : List ℕ} {r₁ : Sighting} {out₁ : List ℕ} {b : Bool}
     (v : NextSender s at k to m x out r₁ out₁) (f : IsAhead at x to (length s) r₁.at r₁.done.mark b) where
-  first-sender : (ps ls ts : List Placed) → Threads s out start k ps to → Roomy s out m message k to → ps ≡ ls ++ ts
-      → at ≡ start + length (encodeRecords ls) → ShowsSight out₁ r₁ (sight_of start (sendersFrom k x (focusesFrom ls ts)))
-  first-sender ps ls ts threads room split here =
-      let behind = threads-from ls ts (subst (λ us. Threads s out start k us to) split threads) in
+  first_sender : (ps ls ts : List Placed) → Threads s out start k ps to → Roomy s out m message k to → ps ≡ ls ++ ts
+      → at ≡ start + length (encode_records ls) → ShowsSight out₁ r₁ (sight_of start (senders_from k x (focuses_from ls ts)))
+  first_sender ps ls ts threads room split here =
+      let behind = threads_from ls ts (subst (λ us. Threads s out start k us to) split threads) in
       v.exact start ls ts (subst (λ (n : ℕ). Threads s out n k ts to) (sym here) behind) room here
 
   pub between_none : {channel : List ℕ} → b ≡ false → Betweens s start at k to m x out channel message None channel message
-  unfolding betweenFrom flat_map
+  unfolding between_from flat_map
   between_none {channel} e = record {
     exact = λ ps ls ts threads room long split here.
-        of ps ls ts threads room split here (sendersFrom k x (focusesFrom ls ts)) refl (first-sender ps ls ts threads room split here);
+        of ps ls ts threads room split here (senders_from k x (focuses_from ls ts)) refl (first_sender ps ls ts threads room split here);
   }
     where
       of : (ps ls ts : List Placed) → Threads s out start k ps to → Roomy s out m message k to → ps ≡ ls ++ ts
-          → at ≡ start + length (encodeRecords ls) → (us : List Party) → sendersFrom k x (focusesFrom ls ts) ≡ us
-          → ShowsSight out₁ r₁ (sight_of start us) → Answered start channel message None (flat_map (λ w. takersFrom w 0 (focuses ps)) us)
+          → at ≡ start + length (encode_records ls) → (us : List Party) → senders_from k x (focuses_from ls ts) ≡ us
+          → ShowsSight out₁ r₁ (sight_of start us) → Answered start channel message None (flat_map (λ w. takers_from w 0 (focuses ps)) us)
       of ps ls ts threads room split here [] g h = refl
       of ps ls ts threads room split here (w ∷ others) g h =
-          absurd (let z : false ≡ true = sym e ∙ f.complete (sender-ahead x ps ls ts w others r₁ threads split here room.short room.few g h) in
+          absurd (let z : false ≡ true = sym e ∙ f.complete (sender_ahead x ps ls ts w others r₁ threads split here room.short room.few g h) in
           let o : ◌≡◌ {A = ℕ} 0 1 = cc in omega arith)
 
-  pub between-onward : {m₁ channel on said : List ℕ} {high : ℕ} {r : Next} → b ≡ true → Within 0 high m m₁ → Within to (length out) out out₁
+  pub between_onward : {m₁ channel on said : List ℕ} {high : ℕ} {r : Next} → b ≡ true → Within 0 high m m₁ → Within to (length out) out out₁
       → NextMeeting s start k to m₁ r₁ out₁ channel message r on said → Betweens s start at k to m x out channel message r on said
-  unfolding betweenFrom
-  between-onward {m₁} {channel} {on} {said} {high} {r} e wm wo o = record {
+  unfolding between_from
+  between_onward {m₁} {channel} {on} {said} {high} {r} e wm wo o = record {
     exact = λ ps ls ts threads room long split here.
-        of ps ls ts threads room long split (sendersFrom k x (focusesFrom ls ts)) refl (first-sender ps ls ts threads room split here);
+        of ps ls ts threads room long split (senders_from k x (focuses_from ls ts)) refl (first_sender ps ls ts threads room split here);
   }
     where
       of : (ps ls ts : List Placed) → Threads s out start k ps to → Roomy s out m message k to → 510 ≤ length channel → ps ≡ ls ++ ts
-          → (us : List Party) → sendersFrom k x (focusesFrom ls ts) ≡ us → ShowsSight out₁ r₁ (sight_of start us)
-          → Answered start on said r (flat_map (λ w. takersFrom w 0 (focuses ps)) us)
+          → (us : List Party) → senders_from k x (focuses_from ls ts) ≡ us → ShowsSight out₁ r₁ (sight_of start us)
+          → Answered start on said r (flat_map (λ w. takers_from w 0 (focuses ps)) us)
       of ps ls ts threads room long split [] g h = absurd (omega (arith, (f.sound e).some))
       of ps ls ts threads room long split (w ∷ others) g h =
-          o.exact x ps ls ts w others (threads-kept ps wo (omega arith) threads) (still-roomy wm wo refl room) long split g h
+          o.exact x ps ls ts w others (threads_kept ps wo (omega arith) threads) (still_roomy wm wo refl room) long split g h
 
-pub ruleset betweens = (between_none, between-onward)
+pub ruleset betweens = (between_none, between_onward)
 
 -- The measure falls from a sender to the next one.
-pub ahead-falls : {at x to long place mark t : ℕ} {b : Bool} → IsAhead at x to long place mark b → b ≡ true → long ≤ 36864
+pub ahead_falls : {at x to long place mark t : ℕ} {b : Bool} → IsAhead at x to long place mark b → b ≡ true → long ≤ 36864
     → 2 * (37000 * (to - at) + (37000 - x)) ≡ t → 2 * (37000 * (to - place) + (37000 - mark)) + 1 < t
-ahead-falls {at} {x} {to} {long} {place} {mark} {t} f e l z = by_place (f.sound e) (eqb place at) refl
+ahead_falls {at} {x} {to} {long} {place} {mark} {t} f e l z = by_place (f.sound e) (eqb place at) refl
   where
     by_place : Ahead at x to long place mark → (c : Bool) → eqb place at ≡ c → 2 * (37000 * (to - place) + (37000 - mark)) + 1 < t
     by_place a true c = let h = eqb-true place at c in omega (arith, a.within, a.below, a.after h)

@@ -11,63 +11,63 @@ use Rattle.meaning.specs.Bytes.Process.{Prefix, Process}
 use Rattle.meaning.specs.Places.{Every, none, ◌also◌}
 use Rattle.meaning.specs.Steps.State.{Bound, ◌▸◌, names}
 use Rattle.meaning.specs.Steps.Invariant.{BoundStored}
-use Rattle.meaning.specs.Judging.Limits.{overSettling}
-use Rattle.meaning.proofs.Every.{every_map, every-joined}
-use Rattle.state_record.specs.Place.{rightAt}
+use Rattle.meaning.specs.Judging.Limits.{over_settling}
+use Rattle.meaning.proofs.Every.{every_map, every_joined}
+use Rattle.state_record.specs.Place.{right_at}
 use Rattle.state_record.specs.Record.{Placed}
 use Rattle.state_progress.specs.TraversalResult.{named}
 use Rattle.state_task.specs.Machine.{taking}
-use Rattle.step_located.specs.Located.{LocatedOffer, locatedOffers, inside}
-use Rattle.step_located.specs.CopyStep.{locatedOffersExcept, pairs, bothReplacedAs}
-use Rattle.step_located.specs.Rebuilt.{bothReplacedAt, rest_of, overRest, placed_at}
+use Rattle.step_located.specs.Located.{LocatedOffer, located_offers, inside}
+use Rattle.step_located.specs.CopyStep.{located_offers_except, pairs, both_replaced_as}
+use Rattle.step_located.specs.Rebuilt.{both_replaced_at, rest_of, over_rest, placed_at}
 use Rattle.state_task.specs.declared.task.Task.TheVariants.{Build}
 use Rattle.state_task.specs.declared.task.Plan.{Plan}
-use Rattle.step_located.proofs.Laws.Located.{left-part, right-part, repl-part, part-inside, at-inside, Inside, acting-inside}
-use Rattle.step_located.proofs.Laws.Located.{left-only, right-only}
-use Rattle.step_located.proofs.Laws.Block.{block-laws, both-outside}
-use Rattle.step_located.proofs.Laws.Everywhere.{every-and, every-under, every-flatMap, every-matching}
+use Rattle.step_located.proofs.Laws.Located.{left_part, right_part, repl_part, part_inside, at_inside, Inside, acting_inside}
+use Rattle.step_located.proofs.Laws.Located.{left_only, right_only}
+use Rattle.step_located.proofs.Laws.Block.{block_laws, both_outside}
+use Rattle.step_located.proofs.Laws.Everywhere.{every_and, every_under, every_flat_map, every_matching}
 use Rattle.step_located.proofs.Laws.Leads.{Said, said, Leads, Cases, by_cases}
-use Rattle.step_located.proofs.Laws.Rebuilt.{both-neither, both_first}
-use Rattle.step_located.proofs.Laws.Marks.{build-plain, sender-only, taker-only, taken}
-use Rattle.step_located.proofs.Laws.Traversal.{Free, free-lead, free-par, Does, does-lead, does-par, does-plain}
-use Rattle.step_located.proofs.Laws.Building.{mark-held, built-only}
+use Rattle.step_located.proofs.Laws.Rebuilt.{both_neither, both_first}
+use Rattle.step_located.proofs.Laws.Marks.{build_plain, sender_only, taker_only, taken}
+use Rattle.step_located.proofs.Laws.Traversal.{Free, free_lead, free_par, Does, does_lead, does_par, does_plain}
+use Rattle.step_located.proofs.Laws.Building.{mark_held, built_only}
 
 -- The offers of the other threads are at positions of the process too.
-others-cases : (x : ℕ) → Cases (λ P at ρ n. (k : ℕ) → Every (Inside at P) (locatedOffersExcept x P at ρ n k))
-unfolding said locatedOffersExcept
-others-cases x = record {
-  lead = λ l h k. rw (ap (λ s. s.others x k) l.same) (every_map (λ a i. part-inside a.place l.part i) (h k));
+others_cases : (x : ℕ) → Cases (λ P at ρ n. (k : ℕ) → Every (Inside at P) (located_offers_except x P at ρ n k))
+unfolding said located_offers_except
+others_cases x = record {
+  lead = λ l h k. rw (ap (λ s. s.others x k) l.same) (every_map (λ a i. part_inside a.place l.part i) (h k));
   nothing = λ at ρ n k. none;
   action = λ p P at ρ n k.
       elim (eqb at x) as (λ b.
       Every (Inside at (Process.act p P))
       (elim b [ true ↦ [] | false ↦ record { place = at; bound = ρ; prefix = p; rest = P; next = k } ∷ [] ]))
-      [ true ↦ none | false ↦ at-inside at (Process.act p P) also none ];
+      [ true ↦ none | false ↦ at_inside at (Process.act p P) also none ];
   beside = λ P Q at ρ n p q k.
-      every-joined (every_map (λ a i. part-inside a.place (left-part at P Q) i) (p k))
-      (every_map (λ a i. part-inside a.place (right-part at P Q) i) (q k));
+      every_joined (every_map (λ a i. part_inside a.place (left_part at P Q) i) (p k))
+      (every_map (λ a i. part_inside a.place (right_part at P Q) i) (q k));
   copied = λ P at ρ n h k.
       elim (inside x (at + 1) P) as (λ b.
-      Every (Inside at (Process.repl P)) (elim b [ true ↦ [] | false ↦ locatedOffers P (at + 1) ρ k (names P ρ k) ]))
-      [ true ↦ none | false ↦ every_map (λ a i. part-inside a.place (repl-part at P) i) (acting-inside P (at + 1) ρ k (names P ρ k)) ];
+      Every (Inside at (Process.repl P)) (elim b [ true ↦ [] | false ↦ located_offers P (at + 1) ρ k (names P ρ k) ]))
+      [ true ↦ none | false ↦ every_map (λ a i. part_inside a.place (repl_part at P) i) (acting_inside P (at + 1) ρ k (names P ρ k)) ];
 }
 
-others-inside : (x : ℕ) (P : Process) (at : ℕ) (ρ : Bound) (n k : ℕ) → Every (Inside at P) (locatedOffersExcept x P at ρ n k)
-others-inside x = by_cases (others-cases x)
+others_inside : (x : ℕ) (P : Process) (at : ℕ) (ρ : Bound) (n k : ℕ) → Every (Inside at P) (located_offers_except x P at ρ n k)
+others_inside x = by_cases (others_cases x)
 
 module _ (b : Plan) (x : Message) where
   -- What follows the sender a, and what follows the taker c.
   abbrev pub after : LocatedOffer → List Placed
   after a = rest_of a a.bound b.rest
 
-  abbrev pub overAfter : LocatedOffer → Bool
-  overAfter a = overRest a a.bound b.rest
+  abbrev pub over_after : LocatedOffer → Bool
+  over_after a = over_rest a a.bound b.rest
 
   abbrev pub under : LocatedOffer → List Placed
   under c = rest_of c (c.bound ▸ x) b.last
 
-  abbrev pub overUnder : LocatedOffer → Bool
-  overUnder c = overRest c (c.bound ▸ x) b.last
+  abbrev pub over_under : LocatedOffer → Bool
+  over_under c = over_rest c (c.bound ▸ x) b.last
 
   abbrev pub Sends : LocatedOffer → Type 0
   Sends a = (b.sender ≡ a.place + 1) × BoundStored b.rest a.bound
@@ -78,134 +78,134 @@ module _ (b : Plan) (x : Message) where
   -- A process that has none of the two in it; only the sender; only the taker.
   module _ (P : Process) (at : ℕ) (ρ : Bound) (n k : ℕ) where
     abbrev Left : LocatedOffer → LocatedOffer → Bool → Type 0
-    Left a c o = Does (Build b k) x P at ρ n o (bothReplacedAt a.place (after a) c.place (under c) P at ρ n k b.second)
+    Left a c o = Does (Build b k) x P at ρ n o (both_replaced_at a.place (after a) c.place (under c) P at ρ n k b.second)
 
-    neither-in : overSettling P ρ n ≡ false → (a c : LocatedOffer) → Sends a → Takes c → inside a.place at P ≡ false
+    neither_in : over_settling P ρ n ≡ false → (a c : LocatedOffer) → Sends a → Takes c → inside a.place at P ≡ false
         → inside c.place at P ≡ false → Left a c false
-    neither-in free a c (s, st) (t, st') out out' =
-        rw (both-neither a.place (after a) c.place (under c) P at ρ n k b.second out out')
-        (does-plain (build-plain b k x) P at ρ n (mark-held _ a.place at P false s out, mark-held _ c.place at P false t out') free)
+    neither_in free a c (s, st) (t, st') out out' =
+        rw (both_neither a.place (after a) c.place (under c) P at ρ n k b.second out out')
+        (does_plain (build_plain b k x) P at ρ n (mark_held _ a.place at P false s out, mark_held _ c.place at P false t out') free)
 
     abbrev SenderIn : LocatedOffer → Type 0
-    SenderIn a = Sends a → (c : LocatedOffer) → Takes c → inside c.place at P ≡ false → Left a c (overAfter a)
+    SenderIn a = Sends a → (c : LocatedOffer) → Takes c → inside c.place at P ≡ false → Left a c (over_after a)
 
-    sender-in : Free P ρ n k → Every SenderIn (locatedOffers P at ρ n k)
-    sender-in free =
+    sender_in : Free P ρ n k → Every SenderIn (located_offers P at ρ n k)
+    sender_in free =
         every_map (λ a (d, e) (s, st) c (t, st') out.
-        rw (e (after a) c.place (under c) b.second out) (d s st (mark-held _ c.place at P false t out)))
-        (every-and (built-only b x (sender-only b x) P at ρ n k free) (both_first P at ρ n k))
+        rw (e (after a) c.place (under c) b.second out) (d s st (mark_held _ c.place at P false t out)))
+        (every_and (built_only b x (sender_only b x) P at ρ n k free) (both_first P at ρ n k))
 
     abbrev TakerIn : LocatedOffer → Type 0
-    TakerIn c = Takes c → (a : LocatedOffer) → Sends a → inside a.place at P ≡ false → Left a c (overUnder c)
+    TakerIn c = Takes c → (a : LocatedOffer) → Sends a → inside a.place at P ≡ false → Left a c (over_under c)
 
-    taker-in : Free P ρ n b.second → Every TakerIn (locatedOffers P at ρ n b.second)
-    taker-in free =
+    taker_in : Free P ρ n b.second → Every TakerIn (located_offers P at ρ n b.second)
+    taker_in free =
         every_map (λ c d (t, st') a (s, st) out.
-        rw (both-outside placed_at a.place (after a) c.place (under c) P at ρ n k b.second out) (record {
+        rw (both_outside placed_at a.place (after a) c.place (under c) P at ρ n k b.second out) (record {
           writes = λ g w.
-              rw (taken b k (λ z. omega arith) P x at ρ (named n g) (mark-held _ a.place at P false s out)) ((d t st' tt).writes g w);
+              rw (taken b k (λ z. omega arith) P x at ρ (named n g) (mark_held _ a.place at P false s out)) ((d t st' tt).writes g w);
         }))
-        (built-only (taking b) x (taker-only (taking b) x refl) P at ρ n b.second free)
+        (built_only (taking b) x (taker_only (taking b) x refl) P at ρ n b.second free)
 
   -- Both are in it, in different threads.
   abbrev Both : Process → (at : ℕ) → Bound → (n k : ℕ) → LocatedOffer → Type 0
   Both P at ρ n k a =
-      Every (λ c. Sends a → Takes c → Left P at ρ n k a c (overAfter a || overUnder c)) (locatedOffersExcept a.place P at ρ n b.second)
+      Every (λ c. Sends a → Takes c → Left P at ρ n k a c (over_after a || over_under c)) (located_offers_except a.place P at ρ n b.second)
 
-  both-lead : {P P' : Process} {at at' : ℕ} {ρ ρ' : Bound} {n n' : ℕ} → Leads P at ρ n P' at' ρ' n' → overSettling P ρ n ≡ false
+  both_lead : {P P' : Process} {at at' : ℕ} {ρ ρ' : Bound} {n n' : ℕ} → Leads P at ρ n P' at' ρ' n' → over_settling P ρ n ≡ false
       → (k : ℕ) (a : LocatedOffer) → Both P' at' ρ' n' k a → Both P at ρ n k a
   unfolding said
-  both-lead l free k a e =
+  both_lead l free k a e =
       rw (ap (λ s. s.others a.place b.second) l.same)
-      (every_map (λ c f sends takes. does-lead l free
-      (rw (ap (λ (s : Said). s.putBoth a.place (after a) c.place (under c) k b.second) l.same) (f sends takes))) e)
+      (every_map (λ c f sends takes. does_lead l free
+      (rw (ap (λ (s : Said). s.put_both a.place (after a) c.place (under c) k b.second) l.same) (f sends takes))) e)
 
-  no-other-act : (p : Prefix) (P : Process) (at : ℕ) (ρ : Bound) (n k : ℕ)
+  no_other_act : (p : Prefix) (P : Process) (at : ℕ) (ρ : Bound) (n k : ℕ)
       → Both (Process.act p P) at ρ n k (record { place = at; bound = ρ; prefix = p; rest = P; next = k })
-  unfolding locatedOffersExcept
-  no-other-act p P at ρ n k = rw (eq-eqb at at refl, locatedOffersExcept) none
+  unfolding located_offers_except
+  no_other_act p P at ρ n k = rw (eq-eqb at at refl, located_offers_except) none
 
-  no-other-copy : (P : Process) (at : ℕ) (ρ : Bound) (n k : ℕ) (a : LocatedOffer) → Inside (at + 1) P a → Both (Process.repl P) at ρ n k a
-  unfolding locatedOffersExcept
-  no-other-copy P at ρ n k a i = rw (i, locatedOffersExcept) none
+  no_other_copy : (P : Process) (at : ℕ) (ρ : Bound) (n k : ℕ) (a : LocatedOffer) → Inside (at + 1) P a → Both (Process.repl P) at ρ n k a
+  unfolding located_offers_except
+  no_other_copy P at ρ n k a i = rw (i, located_offers_except) none
 
   -- The sender is in one of the two processes of a par, and the taker in the same one, or in the other.
   module _ (P Q : Process) (at : ℕ) (ρ : Bound) (n k : ℕ) (free : Free (Process.par P Q) ρ n k)
       (free' : Free (Process.par P Q) ρ n b.second) (a : LocatedOffer) where
     both_left : Inside (at + 1) P a → Both P (at + 1) ρ n k a → SenderIn P (at + 1) ρ n k a → Both (Process.par P Q) at ρ n k a
-    unfolding bothReplacedAs locatedOffersExcept
+    unfolding both_replaced_as located_offers_except
     both_left i e s =
-        let at' = rightAt at P in
+        let at' = right_at at P in
         let m = names P ρ n in
-        let out = left-only a.place at P Q i in
-        let others = (block-laws Q at' ρ m).everyone a.place b.second (λ i'. true≢false (sym i' ∙ out)) in
-        every-joined
+        let out = left_only a.place at P Q i in
+        let others = (block_laws Q at' ρ m).everyone a.place b.second (λ i'. true≢false (sym i' ∙ out)) in
+        every_joined
         (every_map (λ c (f, i') sends takes.
-        rw or-false at (does-par P Q (f sends takes)
-        (neither-in Q at' ρ m k (free-par P Q free).1.settling a c sends takes out (left-only c.place at P Q i'))))
-        (every-and e (others-inside a.place P (at + 1) ρ n b.second)))
+        rw or-false at (does_par P Q (f sends takes)
+        (neither_in Q at' ρ m k (free_par P Q free).1.settling a c sends takes out (left_only c.place at P Q i'))))
+        (every_and e (others_inside a.place P (at + 1) ρ n b.second)))
         (rw others
-        (every_map (λ c (f, i') sends takes. does-par P Q (s sends c takes (right-only c.place at P Q i')) (f takes a sends out))
-        (every-and (taker-in Q at' ρ m k (free-par P Q free').1) (acting-inside Q at' ρ m b.second))))
+        (every_map (λ c (f, i') sends takes. does_par P Q (s sends c takes (right_only c.place at P Q i')) (f takes a sends out))
+        (every_and (taker_in Q at' ρ m k (free_par P Q free').1) (acting_inside Q at' ρ m b.second))))
 
-    both_right : Inside (rightAt at P) Q a → Both Q (rightAt at P) ρ (names P ρ n) k a → SenderIn Q (rightAt at P) ρ (names P ρ n) k a
+    both_right : Inside (right_at at P) Q a → Both Q (right_at at P) ρ (names P ρ n) k a → SenderIn Q (right_at at P) ρ (names P ρ n) k a
         → Both (Process.par P Q) at ρ n k a
-    unfolding bothReplacedAs locatedOffersExcept
+    unfolding both_replaced_as located_offers_except
     both_right i e s =
-        let at' = rightAt at P in
+        let at' = right_at at P in
         let m = names P ρ n in
-        let out = right-only a.place at P Q i in
-        let others = (block-laws P (at + 1) ρ n).everyone a.place b.second (λ i'. true≢false (sym i' ∙ out)) in
-        every-joined {xs = locatedOffersExcept a.place P (at + 1) ρ n b.second}
+        let out = right_only a.place at P Q i in
+        let others = (block_laws P (at + 1) ρ n).everyone a.place b.second (λ i'. true≢false (sym i' ∙ out)) in
+        every_joined {xs = located_offers_except a.place P (at + 1) ρ n b.second}
         (rw others
         (every_map (λ c (f, i') sends takes.
-        rw (or_comm (overAfter a) (overUnder c)) (does-par P Q (f takes a sends out) (s sends c takes (left-only c.place at P Q i'))))
-        (every-and (taker-in P (at + 1) ρ n k (free-par P Q free').0) (acting-inside P (at + 1) ρ n b.second))))
+        rw (or_comm (over_after a) (over_under c)) (does_par P Q (f takes a sends out) (s sends c takes (left_only c.place at P Q i'))))
+        (every_and (taker_in P (at + 1) ρ n k (free_par P Q free').0) (acting_inside P (at + 1) ρ n b.second))))
         (every_map (λ c (f, i') sends takes.
-        does-par P Q
-        (neither-in P (at + 1) ρ n k (free-par P Q free).0.settling a c sends takes out (right-only c.place at P Q i'))
+        does_par P Q
+        (neither_in P (at + 1) ρ n k (free_par P Q free).0.settling a c sends takes out (right_only c.place at P Q i'))
         (f sends takes))
-        (every-and e (others-inside a.place Q at' ρ m b.second)))
+        (every_and e (others_inside a.place Q at' ρ m b.second)))
 
-  both-cases : Cases (λ P at ρ n. (k : ℕ) → Free P ρ n k → Free P ρ n b.second → Every (Both P at ρ n k) (locatedOffers P at ρ n k))
-  unfolding said locatedOffers
-  both-cases = record {
+  both_cases : Cases (λ P at ρ n. (k : ℕ) → Free P ρ n k → Free P ρ n b.second → Every (Both P at ρ n k) (located_offers P at ρ n k))
+  unfolding said located_offers
+  both_cases = record {
     lead = λ l h k free free'.
         rw (ap (λ s. s.offers k) l.same)
-        (every_map (λ a e. both-lead l free.settling k a e) (h k (free-lead l k free) (free-lead l b.second free')));
+        (every_map (λ a e. both_lead l free.settling k a e) (h k (free_lead l k free) (free_lead l b.second free')));
     nothing = λ at ρ n k free free'. none;
-    action = λ p P at ρ n k free free'. no-other-act p P at ρ n k also none;
+    action = λ p P at ρ n k free free'. no_other_act p P at ρ n k also none;
     beside = λ P Q at ρ n p q k free free'.
-        let (f, g) = free-par P Q free in
-        let (f', g') = free-par P Q free' in
-        let at' = rightAt at P in
+        let (f, g) = free_par P Q free in
+        let (f', g') = free_par P Q free' in
+        let at' = right_at at P in
         let m = names P ρ n in
-        every-joined
+        every_joined
         (every_map (λ a (i, e). both_left P Q at ρ n k free free' a i e.0 e.1)
-        (every-and (acting-inside P (at + 1) ρ n k) (every-and (p k f f') (sender-in P (at + 1) ρ n k f))))
+        (every_and (acting_inside P (at + 1) ρ n k) (every_and (p k f f') (sender_in P (at + 1) ρ n k f))))
         (every_map (λ a (i, e). both_right P Q at ρ n k free free' a i e.0 e.1)
-        (every-and (acting-inside Q at' ρ m k) (every-and (q k g g') (sender-in Q at' ρ m k g))));
-    copied = λ P at ρ n h k free free'. every_map (λ a i. no-other-copy P at ρ n k a i) (acting-inside P (at + 1) ρ k (names P ρ k));
+        (every_and (acting_inside Q at' ρ m k) (every_and (q k g g') (sender_in Q at' ρ m k g))));
+    copied = λ P at ρ n h k free free'. every_map (λ a i. no_other_copy P at ρ n k a i) (acting_inside P (at + 1) ρ k (names P ρ k));
   }
 
   -- So for every pair, the taker's copies being opened after the sender's.
   abbrev pub Met : Process → (at : ℕ) → Bound → (n k j : ℕ) → LocatedOffer → LocatedOffer → Type 0
   Met P at ρ n k j a c =
-      Sends a → Takes c → Does (Build b k) x P at ρ n (overAfter a || overUnder c)
-      (bothReplacedAt a.place (after a) c.place (under c) P at ρ n k j)
+      Sends a → Takes c → Does (Build b k) x P at ρ n (over_after a || over_under c)
+      (both_replaced_at a.place (after a) c.place (under c) P at ρ n k j)
 
   abbrev pub After : Process → Bound → (n : ℕ) → LocatedOffer → Type 0
   After P ρ n a = (b.second ≡ a.next) × Free P ρ n a.next
 
-  with-takers : (P : Process) (at : ℕ) (ρ : Bound) (n k : ℕ) (a : LocatedOffer) → (Free P ρ n b.second → Both P at ρ n k a)
-      → Every (λ c. After P ρ n a → Met P at ρ n k a.next a c) (locatedOffersExcept a.place P at ρ n a.next)
-  with-takers P at ρ n k a h =
-      every-under (locatedOffersExcept a.place P at ρ n a.next) (λ (second, free).
-      subst (λ j. Every (Met P at ρ n k j a) (locatedOffersExcept a.place P at ρ n j)) second (h (rw second free)))
+  with_takers : (P : Process) (at : ℕ) (ρ : Bound) (n k : ℕ) (a : LocatedOffer) → (Free P ρ n b.second → Both P at ρ n k a)
+      → Every (λ c. After P ρ n a → Met P at ρ n k a.next a c) (located_offers_except a.place P at ρ n a.next)
+  with_takers P at ρ n k a h =
+      every_under (located_offers_except a.place P at ρ n a.next) (λ (second, free).
+      subst (λ j. Every (Met P at ρ n k j a) (located_offers_except a.place P at ρ n j)) second (h (rw second free)))
 
   pub built-both : (P : Process) (at : ℕ) (ρ : Bound) (n k : ℕ) → Free P ρ n k
       → Every (λ w. After P ρ n w.sender → Met P at ρ n k w.sender.next w.sender w.taker) (pairs P at ρ n k)
   unfolding pairs
   built-both P at ρ n k free =
-      every-flatMap _ (every_map (λ a h. every-flatMap _ (every_map (λ c e. every-matching a c e) (with-takers P at ρ n k a h)))
-      (every-under (locatedOffers P at ρ n k) (λ free'. by_cases both-cases P at ρ n k free free')))
+      every_flat_map _ (every_map (λ a h. every_flat_map _ (every_map (λ c e. every_matching a c e) (with_takers P at ρ n k a h)))
+      (every_under (located_offers P at ρ n k) (λ free'. by_cases both_cases P at ρ n k free free')))

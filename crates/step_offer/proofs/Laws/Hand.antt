@@ -7,78 +7,78 @@ use lib.ListN.{length, take, drop}
 use Rattle.meaning.specs.Messages.Term.{Message}
 use Rattle.meaning.specs.Bytes.Standing.{Stands}
 use Rattle.meaning.proofs.Bytes.Reading.Place.{parts}
-use Rattle.message_bytes.specs.Encoding.{encodeMessage}
+use Rattle.message_bytes.specs.Encoding.{encode_message}
 use Rattle.message_bytes.specs.Run.{SizeOf}
-use Rattle.message_bytes.proofs.Theorems.{runLength}
+use Rattle.message_bytes.proofs.Theorems.{run_length}
 use Rattle.buffer.proofs.Laws.Buffer.{lent, part}
-use Rattle.message_bytes.proofs.Laws.Traverse.{some-node}
+use Rattle.message_bytes.proofs.Laws.Traverse.{some_node}
 use Rattle.state_record.specs.Stored.{Fetched}
-use Rattle.state_progress.specs.Represented.{encodeMessages}
+use Rattle.state_progress.specs.Represented.{encode_messages}
 use Rattle.step_offer.specs.Hand.{Copies, CopiesTo, Hands}
-use Rattle.step_transition.proofs.Laws.Threads.{stands-ends}
+use Rattle.step_transition.proofs.Laws.Threads.{stands_ends}
 
-pub copies-none : {out to : List ℕ} {from : ℕ} → length out < from → Copies out from 0 to
-copies-none h = record { exact = λ x p k. absurd (omega (arith, stands-ends p (omega (arith, runLength x, some-node x)), p.size)) }
+pub copies_none : {out to : List ℕ} {from : ℕ} → length out < from → Copies out from 0 to
+copies_none h = record { exact = λ x p k. absurd (omega (arith, stands_ends p (omega (arith, run_length x, some_node x)), p.size)) }
 
 module _ (out : List ℕ) {from v : ℕ} (z : SizeOf (take (length out - from) (drop from out)) v) where
-  pub size_of : (x : Message) {end : ℕ} → Stands out from (encodeMessage x) end → 2 * v ≡ length (encodeMessage x)
+  pub size_of : (x : Message) {end : ℕ} → Stands out from (encode_message x) end → 2 * v ≡ length (encode_message x)
   size_of x p =
-      let n = z.same x (lent p (stands-ends p (omega (arith, runLength x, some-node x)))) in omega (arith, n, runLength x)
+      let n = z.same x (lent p (stands_ends p (omega (arith, run_length x, some_node x)))) in omega (arith, n, run_length x)
 
-  pub copies-long : {to : List ℕ} → length to < 2 * v → Copies out from 0 to
-  copies-long h = record { exact = λ x p k. absurd (omega (arith, size_of x p)) }
+  pub copies_long : {to : List ℕ} → length to < 2 * v → Copies out from 0 to
+  copies_long h = record { exact = λ x p k. absurd (omega (arith, size_of x p)) }
 
-  pub copies-made : {to : List ℕ} → Fetched (take (from + 2 * v - from) (drop from out)) to → Copies out from (2 * v) to
-  copies-made w = record {
+  pub copies_made : {to : List ℕ} → Fetched (take (from + 2 * v - from) (drop from out)) to → Copies out from (2 * v) to
+  copies_made w = record {
     exact = λ x {end} p k.
         let n = size_of x p in
         let ends : end ≡ from + 2 * v = omega (arith, p.size) in
-        let same : take (from + 2 * v - from) (drop from out) ≡ encodeMessage x = rw ends at (part p) in
+        let same : take (from + 2 * v - from) (drop from out) ≡ encode_message x = rw ends at (part p) in
         rw (same, sym n) at w.there;
   }
 
-pub ruleset copyings = (copies-none, copies-long, copies-made)
+pub ruleset copyings = (copies_none, copies_long, copies_made)
 
 -- One that ends at a position.
 module _ {out to : List ℕ} {from end : ℕ} where
-  pub until-before : end < from → CopiesTo out from end 0 to
-  until-before h = record { exact = λ x p k. absurd (omega (arith, p.size)) }
+  pub until_before : end < from → CopiesTo out from end 0 to
+  until_before h = record { exact = λ x p k. absurd (omega (arith, p.size)) }
 
-  pub until-beyond : length out < end → CopiesTo out from end 0 to
-  until-beyond h = record { exact = λ x p k. absurd (omega (arith, stands-ends p (omega (arith, runLength x, some-node x)))) }
+  pub until_beyond : length out < end → CopiesTo out from end 0 to
+  until_beyond h = record { exact = λ x p k. absurd (omega (arith, stands_ends p (omega (arith, run_length x, some_node x)))) }
 
-  pub until-long : length to < end - from → CopiesTo out from end 0 to
-  until-long h = record { exact = λ x p k. absurd (omega (arith, p.size)) }
+  pub until_long : length to < end - from → CopiesTo out from end 0 to
+  until_long h = record { exact = λ x p k. absurd (omega (arith, p.size)) }
 
-  pub until-made : {size : ℕ} → size ≡ end - from → Fetched (take (end - from) (drop from out)) to → CopiesTo out from end size to
-  until-made {size} e w = record {
+  pub until_made : {size : ℕ} → size ≡ end - from → Fetched (take (end - from) (drop from out)) to → CopiesTo out from end size to
+  until_made {size} e w = record {
     exact = λ x p k.
-        let n : length (encodeMessage x) ≡ size = omega (arith, p.size, e) in
+        let n : length (encode_message x) ≡ size = omega (arith, p.size, e) in
         rw (part p, n) at w.there;
   }
 
-pub ruleset untils = (until-before, until-beyond, until-long, until-made)
+pub ruleset untils = (until_before, until_beyond, until_long, until_made)
 
 -- The second one stands behind the first.
 pub handed : {out : List ℕ} {from a b : ℕ} (channel message : List ℕ) → Copies out from a channel → Copies out (from + a) b message
     → Hands out from (record { channel = a; message = b }) channel message
-unfolding encodeMessages
+unfolding encode_messages
 handed {out} {from} {a} channel message f g = record {
   exact = λ x y p k l.
-      let (mid, q, both) = parts (encodeMessage x) (encodeMessages (y ∷ []) ∷ []) p in
-      let (last, r, e) = parts (encodeMessage y) ([] ∷ []) both in
+      let (mid, q, both) = parts (encode_message x) (encode_messages (y ∷ []) ∷ []) p in
+      let (last, r, e) = parts (encode_message y) ([] ∷ []) both in
       let first = f.exact x q k in
       let here : mid ≡ from + a = omega (arith, q.size, first.size) in
-      (first, g.exact y (subst (λ (n : ℕ). Stands out n (encodeMessage y) last) here r) l);
+      (first, g.exact y (subst (λ (n : ℕ). Stands out n (encode_message y) last) here r) l);
 }
 
-pub none-handed : {out : List ℕ} {from : ℕ} (channel message : List ℕ) → length out < from
+pub none_handed : {out : List ℕ} {from : ℕ} (channel message : List ℕ) → length out < from
     → Hands out from (record { channel = 0; message = 0 }) channel message
-unfolding encodeMessages
-none-handed channel message h = record {
+unfolding encode_messages
+none_handed channel message h = record {
   exact = λ x y p k l.
-      let (mid, q, both) = parts (encodeMessage x) (encodeMessages (y ∷ []) ∷ []) p in
-      absurd (omega (arith, stands-ends q (omega (arith, runLength x, some-node x)), q.size));
+      let (mid, q, both) = parts (encode_message x) (encode_messages (y ∷ []) ∷ []) p in
+      absurd (omega (arith, stands_ends q (omega (arith, run_length x, some_node x)), q.size));
 }
 
-pub ruleset hands = (handed, none-handed)
+pub ruleset hands = (handed, none_handed)

@@ -7,12 +7,12 @@ use native.Mathlib.Omega.{arith}
 use Rattle.meaning.specs.Messages.Term.{Message}
 use Rattle.meaning.specs.Places.{Every, none, ◌also◌}
 use Rattle.index_process.specs.Index.{Lasts}
-use Rattle.state_record.specs.Record.{processOf, boundOf}
-use Rattle.state_record.proofs.Laws.Process.{in-model}
+use Rattle.state_record.specs.Record.{process_of, bound_of}
+use Rattle.state_record.proofs.Laws.Process.{in_model}
 use Rattle.state_task.specs.declared.task.Quest.{Quest}
 use Rattle.step_located.specs.Located.{LocatedOffer}
 use Rattle.step_located.specs.Sought.{wanted}
-use Rattle.step_located.proofs.Laws.Last.{none-wanted}
+use Rattle.step_located.proofs.Laws.Last.{none_wanted}
 use Rattle.step_offer.specs.Seek.{Sight, first_of}
 use Rattle.step_offer.specs.Pass.{NoOffer}
 
@@ -28,6 +28,6 @@ pub spent : {s argument : List ℕ} {place last : ℕ} {q : Quest} → Lasts s p
 spent {q = q} x h = record {
   exact = λ _ t y k at later here p b l.
       none_first q y at later
-      (none-wanted q y (processOf t.thread) t.place (boundOf t.thread) 0 k
-      (omega (arith, (rw (← here) at x).same (processOf t.thread) (in-model p.process))));
+      (none_wanted q y (process_of t.thread) t.place (bound_of t.thread) 0 k
+      (omega (arith, (rw (← here) at x).same (process_of t.thread) (in_model p.process))));
 }

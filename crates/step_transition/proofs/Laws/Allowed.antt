@@ -11,58 +11,58 @@ use Rattle.meaning.specs.Messages.Equation.{Normal}
 use Rattle.meaning.specs.Bytes.Process.{Prefix, output, input, Process}
 use Rattle.meaning.specs.Places.{Every}
 use Rattle.meaning.specs.Steps.State.{Bound, written, worked, settle}
-use Rattle.meaning.specs.Judging.Limits.{over, overWhole, overPrefix}
-use Rattle.meaning.proofs.Messages.{normalForms}
+use Rattle.meaning.specs.Judging.Limits.{over, over_whole, over_prefix}
+use Rattle.meaning.proofs.Messages.{normal_forms}
 use Rattle.meaning.proofs.Test.{neither}
 use Rattle.meaning.proofs.Every.{every_map}
-use Rattle.message_bytes.specs.Encoding.{encodeMessage}
-use Rattle.message_bytes.proofs.Theorems.{runLength}
+use Rattle.message_bytes.specs.Encoding.{encode_message}
+use Rattle.message_bytes.proofs.Theorems.{run_length}
 use Rattle.state_layout.specs.Loaded.{BoundSmall}
-use Rattle.step_located.specs.Located.{LocatedOffer, locatedOffers, prefixed}
-use Rattle.step_located.specs.CopyStep.{messageOf}
-use Rattle.step_located.specs.Sought.{wanted, sentBy}
-use Rattle.step_transition.specs.CopyOffers.{outputs, channelOf}
+use Rattle.step_located.specs.Located.{LocatedOffer, located_offers, prefixed}
+use Rattle.step_located.specs.CopyStep.{message_of}
+use Rattle.step_located.specs.Sought.{wanted, sent_by}
+use Rattle.step_transition.specs.CopyOffers.{outputs, channel_of}
 use Rattle.step_transition.proofs.Laws.LimitsLeft.{Clear}
 use Rattle.step_transition.proofs.Laws.LimitsReplaced.{replaces}
 
-pub acting-allowed : (P : Process) (at : ℕ) (ρ : Bound) (n k : ℕ) → Every (Clear k) (settle P ρ n)
-    → Every (λ a. overPrefix a.bound a.prefix a.rest a.next ≡ false) (locatedOffers P at ρ n k)
-acting-allowed P at ρ n k c = every_map (λ a r. r.opens.allowed) (replaces P at ρ n k c)
+pub acting_allowed : (P : Process) (at : ℕ) (ρ : Bound) (n k : ℕ) → Every (Clear k) (settle P ρ n)
+    → Every (λ a. over_prefix a.bound a.prefix a.rest a.next ≡ false) (located_offers P at ρ n k)
+acting_allowed P at ρ n k c = every_map (λ a r. r.opens.allowed) (replaces P at ρ n k c)
 
 -- Its messages are small.
-pub acting-small : (P : Process) (at : ℕ) (ρ : Bound) (n k : ℕ) → Every (Clear k) (settle P ρ n)
-    → Every (λ a. BoundSmall a.bound) (locatedOffers P at ρ n k)
-acting-small P at ρ n k c = every_map (λ a r. r.opens.small) (replaces P at ρ n k c)
+pub acting_small : (P : Process) (at : ℕ) (ρ : Bound) (n k : ℕ) → Every (Clear k) (settle P ρ n)
+    → Every (λ a. BoundSmall a.bound) (located_offers P at ρ n k)
+acting_small P at ρ n k c = every_map (λ a r. r.opens.small) (replaces P at ρ n k c)
 
 -- A term that is worked within the limits has a short run.
-whole : (ρ : Bound) (t : Term) → over ρ t ≡ false → overWhole ρ t ≡ false
+whole : (ρ : Bound) (t : Term) → over ρ t ≡ false → over_whole ρ t ≡ false
 unfolding over
 whole ρ (leaf l) e = e
 whole ρ (proj s t) e = (neither (over ρ t) _ e).1
 whole ρ (binary b t u) e = (neither (over ρ t || over ρ u) _ e).1
 
-pub run_short : (ρ : Bound) (t : Term) → over ρ t ≡ false → length (encodeMessage (worked ρ t)) ≤ 510
-run_short ρ t e = omega (arith, ltb-false 255 (nodes (worked ρ t)) (whole ρ t e), runLength (worked ρ t))
+pub run_short : (ρ : Bound) (t : Term) → over ρ t ≡ false → length (encode_message (worked ρ t)) ≤ 510
+run_short ρ t e = omega (arith, ltb-false 255 (nodes (worked ρ t)) (whole ρ t e), run_length (worked ρ t))
 
 -- What an output within the limits sends.
 pub record Sent (a : LocatedOffer) : Type 0 where
-  pub messages : sentBy a ≡ channelOf a ∷ worked a.bound (messageOf a.prefix) ∷ []
-  pub channel : length (encodeMessage (channelOf a)) ≤ 510
-  pub message : length (encodeMessage (worked a.bound (messageOf a.prefix))) ≤ 510
-  pub normal : Normal (channelOf a)
+  pub messages : sent_by a ≡ channel_of a ∷ worked a.bound (message_of a.prefix) ∷ []
+  pub channel : length (encode_message (channel_of a)) ≤ 510
+  pub message : length (encode_message (worked a.bound (message_of a.prefix))) ≤ 510
+  pub normal : Normal (channel_of a)
 
-pub sent : (n : ℕ) (x : Message) (a : LocatedOffer) → overPrefix a.bound a.prefix a.rest a.next ≡ false
+pub sent : (n : ℕ) (x : Message) (a : LocatedOffer) → over_prefix a.bound a.prefix a.rest a.next ≡ false
     → wanted (outputs n) x a ≡ true → Sent a
-unfolding wanted sentBy
+unfolding wanted sent_by
 sent n x a = of a.prefix
   where
-    of : (p : Prefix) → overPrefix a.bound p a.rest a.next ≡ false → wanted (outputs n) x (prefixed a p) ≡ true → Sent (prefixed a p)
+    of : (p : Prefix) → over_prefix a.bound p a.rest a.next ≡ false → wanted (outputs n) x (prefixed a p) ≡ true → Sent (prefixed a p)
     of (output C M) f w =
         let (c, m) = neither (over a.bound C) _ f in
         record {
           messages = refl;
           channel = run_short a.bound C c;
           message = run_short a.bound M m;
-          normal = (normalForms (written a.bound C)).0;
+          normal = (normal_forms (written a.bound C)).0;
         }
     of (input C) f w = absurd (true≢false (sym w))

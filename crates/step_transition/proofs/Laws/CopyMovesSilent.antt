@@ -4,42 +4,42 @@ use mathlib.Core.Path.{sym, ◌∙◌}
 use mathlib.Core.Logic.{inl, inr}
 use mathlib.Core.List.{List, flat_map}
 use Rattle.meaning.specs.Places.{Every}
-use Rattle.meaning.proofs.Every.{every-split}
+use Rattle.meaning.proofs.Every.{every_split}
 use Rattle.step_located.specs.Located.{LocatedOffer}
 use Rattle.step_located.specs.CopyStep.{Pair, matching, CopyStep}
-use Rattle.step_located.proofs.Laws.Copies.{split-joined, split_at}
-use Rattle.step_located.proofs.Laws.Everywhere.{every-mapped, every-flatMap, everywhere}
-use Rattle.step_transition.specs.Focus.{Focus, focuses, offersOf}
+use Rattle.step_located.proofs.Laws.Copies.{split_joined, split_at}
+use Rattle.step_located.proofs.Laws.Everywhere.{every_mapped, every_flat_map, everywhere}
+use Rattle.step_transition.specs.Focus.{Focus, focuses, offers_of}
 use Rattle.step_transition.specs.Moves.{Move, inside, between, others, takers, meetings}
-use Rattle.step_transition.specs.CopyMoves.{copyMoves}
+use Rattle.step_transition.specs.CopyMoves.{copy_moves}
 use Rattle.step_transition.specs.Resumption.{SilentMovesResumed}
-use Rattle.step_transition.proofs.Laws.CopyMoves.{silentMoves-parts}
+use Rattle.step_transition.proofs.Laws.CopyMoves.{silent_moves_parts}
 use Rattle.step_transition.proofs.Laws.SplitLists.{split_parts}
-use Rattle.step_transition.proofs.Laws.CopyMovesResumed.{copyMovesResumed}
+use Rattle.step_transition.proofs.Laws.CopyMovesResumed.{copy_moves_resumed}
 
 -- A step of two threads.
 pub data Shared : Move → Type 0 where
   both : (p q : Focus) (v : Pair) → Shared (between p q v)
 
-takers-shared : (p : Focus) (a : LocatedOffer) (qs : List Focus) → Every Shared (takers p a qs)
+takers_shared : (p : Focus) (a : LocatedOffer) (qs : List Focus) → Every Shared (takers p a qs)
 unfolding takers
-takers-shared p a qs =
-    every-flatMap _ (everywhere (λ q.
-    every-mapped (between p q) (everywhere (both p q) (flat_map (matching a) (offersOf q.thread a.next)))) qs)
+takers_shared p a qs =
+    every_flat_map _ (everywhere (λ q.
+    every_mapped (between p q) (everywhere (both p q) (flat_map (matching a) (offers_of q.thread a.next)))) qs)
 
-pub meetings-shared : (k : ℕ) (qs : List Focus) (p : Focus) → Every Shared (meetings k qs p)
+pub meetings_shared : (k : ℕ) (qs : List Focus) (p : Focus) → Every Shared (meetings k qs p)
 unfolding meetings
-meetings-shared k qs p = every-flatMap _ (everywhere (λ a. takers-shared p a (others p qs)) _)
+meetings_shared k qs p = every_flat_map _ (everywhere (λ a. takers_shared p a (others p qs)) _)
 
-not-inside : {p : Focus} {j : CopyStep} → Shared (inside p j) → ⊥
-not-inside t = elim t [ ]
+not_inside : {p : Focus} {j : CopyStep} → Shared (inside p j) → ⊥
+not_inside t = elim t [ ]
 
-pub silentMovesResumed : SilentMovesResumed
-silentMovesResumed k ps before after p j e =
-    elim (split-joined (copyMoves k (focuses ps)) (split_at before (sym (silentMoves-parts k ps) ∙ e))) [
+pub silent_moves_resumed : SilentMovesResumed
+silent_moves_resumed k ps before after p j e =
+    elim (split_joined (copy_moves k (focuses ps)) (split_at before (sym (silent_moves_parts k ps) ∙ e))) [
       | inl t ↦
           let (r, s, f) = t in
-          (r, copyMovesResumed k ps before r p j (split_parts s), f)
+          (r, copy_moves_resumed k ps before r p j (split_parts s), f)
       | inr t ↦
-          absurd (not-inside (every-split t.1 (every-flatMap (meetings k (focuses ps)) (everywhere (meetings-shared k (focuses ps)) (focuses ps)))).1)
+          absurd (not_inside (every_split t.1 (every_flat_map (meetings k (focuses ps)) (everywhere (meetings_shared k (focuses ps)) (focuses ps)))).1)
     ]

@@ -8,9 +8,9 @@ use Rattle.buffer.specs.Buffer.{Within}
 use Rattle.step_transition.specs.CopyMoves.{Roomy}
 
 -- It stays.
-pub still-roomy : {s out out₁ m m₁ message message₁ : List ℕ} {k to low high low₁ high₁ : ℕ} → Within low high m m₁ → Within low₁ high₁ out out₁
+pub still_roomy : {s out out₁ m m₁ message message₁ : List ℕ} {k to low high low₁ high₁ : ℕ} → Within low high m m₁ → Within low₁ high₁ out out₁
     → length message₁ ≡ length message → Roomy s out m message k to → Roomy s out₁ m₁ message₁ k to
-still-roomy wm wo e o = record {
+still_roomy wm wo e o = record {
   short = o.short;
   wide = omega (arith, o.wide, wm.long);
   room = omega (arith, o.room, wo.long);

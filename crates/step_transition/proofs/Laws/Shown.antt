@@ -10,19 +10,19 @@ use Rattle.step_label.specs.declared.step.Next.TheVariants as next
 use Rattle.step_label.specs.declared.step.Step.{Step}
 
 -- A step is one thing, none another.
-pub found-or-none : {v : Step} → next.Found v ≡ next.None → ⊥
-found-or-none e = let z : ◌≡◌ {A = ℕ} 0 1 = cc in omega arith
+pub found_or_none : {v : Step} → next.Found v ≡ next.None → ⊥
+found_or_none e = let z : ◌≡◌ {A = ℕ} 0 1 = cc in omega arith
 
 -- What is shown first is shown of more; where nothing is shown, there is nothing, and what comes next is shown.
 module _ (start : ℕ) (said : List ℕ) where
-  pub shown-more : (v : Step) (xs ys : List Move) → Shown start said (next.Found v) xs → Shown start said (next.Found v) (xs ++ ys)
-  shown-more v [] ys e = absurd (found-or-none e)
-  shown-more v (x ∷ xs) ys h = h
+  pub shown_more : (v : Step) (xs ys : List Move) → Shown start said (next.Found v) xs → Shown start said (next.Found v) (xs ++ ys)
+  shown_more v [] ys e = absurd (found_or_none e)
+  shown_more v (x ∷ xs) ys h = h
 
-  pub shown-none : (xs : List Move) → Shown start said next.None xs → xs ≡ []
-  shown-none [] e = refl
-  shown-none (x ∷ xs) e = absurd (found-or-none (sym e.0))
+  pub shown_none : (xs : List Move) → Shown start said next.None xs → xs ≡ []
+  shown_none [] e = refl
+  shown_none (x ∷ xs) e = absurd (found_or_none (sym e.0))
 
-pub shown-next : (start : ℕ) (said₁ said : List ℕ) (r : Next) (xs ys : List Move) → Shown start said₁ next.None xs → Shown start said r ys
+pub shown_next : (start : ℕ) (said₁ said : List ℕ) (r : Next) (xs ys : List Move) → Shown start said₁ next.None xs → Shown start said r ys
     → Shown start said r (xs ++ ys)
-shown-next start said₁ said r xs ys e h = rw (shown-none start said₁ xs e) h
+shown_next start said₁ said r xs ys e h = rw (shown_none start said₁ xs e) h

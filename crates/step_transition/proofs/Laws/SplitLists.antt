@@ -11,16 +11,16 @@ use borrow.Author.Tests.{ltb-false, le-ltb, lt-ltb, not-true}
 use Rattle.meaning.specs.Messages.Term.{Message}
 use Rattle.meaning.specs.Bytes.Process.{Prefix, output, input}
 use Rattle.meaning.specs.Steps.Offer.{Split, here, there}
-use Rattle.meaning.proofs.Every.{every_map, every-split}
+use Rattle.meaning.proofs.Every.{every_map, every_split}
 use Rattle.meaning.proofs.Test.{chosen as tested}
 use Rattle.state_task.specs.declared.task.Quest.{Quest}
 use Rattle.step_located.specs.Located.{LocatedOffer, prefixed}
 use Rattle.step_located.specs.Sought.{wanted}
-use Rattle.step_located.proofs.Laws.Copies.{split-joined}
-use Rattle.step_located.proofs.Laws.Increasing.{Increasing, end, first, increasing-lower, increasing-above}
+use Rattle.step_located.proofs.Laws.Copies.{split_joined}
+use Rattle.step_located.proofs.Laws.Increasing.{Increasing, end, first, increasing_lower, increasing_above}
 use Rattle.step_located.proofs.Laws.Everywhere.{everywhere}
 use Rattle.step_transition.specs.Focus.{filter}
-use Rattle.step_transition.proofs.Laws.MovesLists.{filter-all, every-filter}
+use Rattle.step_transition.proofs.Laws.MovesLists.{filter_all, every_filter}
 
 module _ {A B : Type 0} where
   -- A place in the list of what f gives for the elements of xs: one of xs, and one in what f gives for it.
@@ -34,16 +34,16 @@ module _ {A B : Type 0} where
     pub inner : Split (f at) low v high
     pub follows : after ≡ high ++ flat_map f post
 
-  pub split-flatMap : (f : A → List B) (xs : List A) {l r : List B} {v : B} → Split (flat_map f xs) l v r → Among f xs v r
+  pub split_flat_map : (f : A → List B) (xs : List A) {l r : List B} {v : B} → Split (flat_map f xs) l v r → Among f xs v r
   unfolding flat_map
-  split-flatMap f [] s = elim s [ ]
-  split-flatMap f (x ∷ xs) s =
-      elim (split-joined (f x) s) [
+  split_flat_map f [] s = elim s [ ]
+  split_flat_map f (x ∷ xs) s =
+      elim (split_joined (f x) s) [
         | inl t ↦
             let (high, inner, e) = t in
             record { pre = []; at = x; post = xs; outer = here; low = _; high = high; inner = inner; follows = e }
         | inr t ↦
-            let m = split-flatMap f xs t.1 in
+            let m = split_flat_map f xs t.1 in
             record {
               pre = x ∷ m.pre;
               at = m.at;
@@ -56,11 +56,11 @@ module _ {A B : Type 0} where
             }
       ]
 
-  pub split-map : (f : A → B) (xs : List A) {l r : List B} {v : B} → Split (map f xs) l v r
+  pub split_map : (f : A → B) (xs : List A) {l r : List B} {v : B} → Split (map f xs) l v r
       → (l' : List A) × (x : A) × (r' : List A) × Split xs l' x r' × (v ≡ f x) × (r ≡ map f r')
-  split-map f (x ∷ xs) here = ([], x, xs, here, refl, refl)
-  split-map f (x ∷ xs) (there s) =
-      let (l, y, r, t, e, g) = split-map f xs s in
+  split_map f (x ∷ xs) here = ([], x, xs, here, refl, refl)
+  split_map f (x ∷ xs) (there s) =
+      let (l, y, r, t, e, g) = split_map f xs s in
       (x ∷ l, y, r, there t, e, g)
 
 pub split_parts : {A : Type 0} {ts l r : List A} {t : A} → Split ts l t r → ts ≡ l ++ (t ∷ r)
@@ -68,11 +68,11 @@ split_parts here = refl
 split_parts (there {u} s) = ap (λ r. u ∷ r) (split_parts s)
 
 -- One test after another.
-pub filter-filter : {A : Type 0} (both one more : A → Bool) → ((x : A) → both x ≡ elim (one x) [ true ↦ more x | false ↦ false ])
+pub filter_filter : {A : Type 0} (both one more : A → Bool) → ((x : A) → both x ≡ elim (one x) [ true ↦ more x | false ↦ false ])
     → (xs : List A) → filter both xs ≡ filter more (filter one xs)
 unfolding filter
-filter-filter both one more e [] = refl
-filter-filter both one more e (x ∷ xs) = of (one x) (filter-filter both one more e xs) (e x)
+filter_filter both one more e [] = refl
+filter_filter both one more e (x ∷ xs) = of (one x) (filter_filter both one more e xs) (e x)
   where
     of : (b : Bool) → filter both xs ≡ filter more (filter one xs) → both x ≡ elim b [ true ↦ more x | false ↦ false ]
         → elim (both x) [ true ↦ x ∷ filter both xs | false ↦ filter both xs ]
@@ -80,43 +80,43 @@ filter-filter both one more e (x ∷ xs) = of (one x) (filter-filter both one mo
     of true rest h = rw h (tested (λ u v. u ≡ v) (more x) (ap (λ r. x ∷ r) rest) rest)
     of false rest h = rw h rest
 
-pub increasing-filter : (test : LocatedOffer → Bool) {low : ℕ} {xs : List LocatedOffer} → Increasing low xs → Increasing low (filter test xs)
+pub increasing_filter : (test : LocatedOffer → Bool) {low : ℕ} {xs : List LocatedOffer} → Increasing low xs → Increasing low (filter test xs)
 unfolding filter
-increasing-filter test end = end
-increasing-filter test (first {low} {a} {xs} l h) = of (test a) (increasing-filter test h)
+increasing_filter test end = end
+increasing_filter test (first {low} {a} {xs} l h) = of (test a) (increasing_filter test h)
   where
     of : (b : Bool) → Increasing (a.place + 1) (filter test xs)
         → Increasing low (elim b [ true ↦ a ∷ filter test xs | false ↦ filter test xs ])
     of true rest = first l rest
-    of false rest = increasing-lower (omega arith) rest
+    of false rest = increasing_lower (omega arith) rest
 
 -- The offers from a position on.
 abbrev at_least : ℕ → LocatedOffer → Bool
 at_least x a = not (ltb a.place x)
 
-since-all : {low x : ℕ} {xs : List LocatedOffer} → x ≤ low → Increasing low xs → filter (at_least x) xs ≡ xs
-since-all {low} {x} le h =
-    filter-all (at_least x) (every_map (λ a m. ap not (le-ltb a.place x (omega arith))) (increasing-above h))
+since_all : {low x : ℕ} {xs : List LocatedOffer} → x ≤ low → Increasing low xs → filter (at_least x) xs ≡ xs
+since_all {low} {x} le h =
+    filter_all (at_least x) (every_map (λ a m. ap not (le-ltb a.place x (omega arith))) (increasing_above h))
 
-since-here : (x : ℕ) (a : LocatedOffer) (xs : List LocatedOffer) → x ≤ a.place → filter (at_least x) (a ∷ xs) ≡ a ∷ filter (at_least x) xs
+since_here : (x : ℕ) (a : LocatedOffer) (xs : List LocatedOffer) → x ≤ a.place → filter (at_least x) (a ∷ xs) ≡ a ∷ filter (at_least x) xs
 unfolding filter
-since-here x a xs le = rw (le-ltb a.place x le, filter)
+since_here x a xs le = rw (le-ltb a.place x le, filter)
 
-since-not : (x : ℕ) (a : LocatedOffer) (xs : List LocatedOffer) → a.place < x → filter (at_least x) (a ∷ xs) ≡ filter (at_least x) xs
+since_not : (x : ℕ) (a : LocatedOffer) (xs : List LocatedOffer) → a.place < x → filter (at_least x) (a ∷ xs) ≡ filter (at_least x) xs
 unfolding filter
-since-not x a xs lt = rw (lt-ltb a.place x lt, filter)
+since_not x a xs lt = rw (lt-ltb a.place x lt, filter)
 
 -- From that of one of them on, and from behind it on.
-since-place : {low : ℕ} {xs l r : List LocatedOffer} {a : LocatedOffer} → Increasing low xs → Split xs l a r
+since_place : {low : ℕ} {xs l r : List LocatedOffer} {a : LocatedOffer} → Increasing low xs → Split xs l a r
     → (filter (at_least a.place) xs ≡ a ∷ r) × (filter (at_least (a.place + 1)) xs ≡ r)
-since-place {a} (first {xs} l h) here = (
-  since-here a.place a xs (le_refl _) ∙ ap (λ r. a ∷ r) (since-all (omega arith) h),
-  since-not (a.place + 1) a xs (omega arith) ∙ since-all (le_refl _) h,
+since_place {a} (first {xs} l h) here = (
+  since_here a.place a xs (le_refl _) ∙ ap (λ r. a ∷ r) (since_all (omega arith) h),
+  since_not (a.place + 1) a xs (omega arith) ∙ since_all (le_refl _) h,
 )
-since-place {a} (first {a = b} {xs} l h) (there s) =
-    let m = (every-split s (increasing-above h)).1 in
-    let (e, f) = since-place h s in
-    (since-not a.place b xs (omega (arith, m)) ∙ e, since-not (a.place + 1) b xs (omega (arith, m)) ∙ f)
+since_place {a} (first {a = b} {xs} l h) (there s) =
+    let m = (every_split s (increasing_above h)).1 in
+    let (e, f) = since_place h s in
+    (since_not a.place b xs (omega (arith, m)) ∙ e, since_not (a.place + 1) b xs (omega (arith, m)) ∙ f)
 
 -- The same quest from a position on: those offers at it or above it.
 abbrev pub since : ℕ → Quest → Quest
@@ -139,18 +139,18 @@ weaker false s t c h = refl
 
 module _ (q : Quest) (x : Message) where
   -- What is wanted from a position on is at it or above it; what is wanted from a later one on is wanted, and at that or above it.
-  pub wanted-since : (n : ℕ) (a : LocatedOffer) → wanted (since n q) x a ≡ true → n ≤ a.place
+  pub wanted_since : (n : ℕ) (a : LocatedOffer) → wanted (since n q) x a ≡ true → n ≤ a.place
   unfolding wanted
-  wanted-since n a e = ltb-false a.place n (not-true _ (of a.prefix e))
+  wanted_since n a e = ltb-false a.place n (not-true _ (of a.prefix e))
     where
       of : (p : Prefix) → wanted (since n q) x (prefixed a p) ≡ true → at_least n a ≡ true
       of (output C M) e = second q.output (at_least n a) _ e
       of (input C) e = second (not q.output) (at_least n a) _ e
 
-  wanted-later : (n m : ℕ) (a : LocatedOffer) → n ≤ m
+  wanted_later : (n m : ℕ) (a : LocatedOffer) → n ≤ m
       → wanted (since m q) x a ≡ elim (wanted (since n q) x a) [ true ↦ at_least m a | false ↦ false ]
   unfolding wanted
-  wanted-later n m a l = of a.prefix
+  wanted_later n m a l = of a.prefix
     where
       above : at_least m a ≡ true → at_least n a ≡ true
       above e = ap not (le-ltb a.place n (omega (arith, ltb-false a.place m (not-true _ e))))
@@ -165,8 +165,8 @@ module _ (q : Quest) (x : Message) where
       → (filter (wanted (since a.place q) x) xs ≡ a ∷ r) × (filter (wanted (since (a.place + 1) q) x) xs ≡ r)
   resumed n {xs = xs} {a = a} h s =
       let W = wanted (since n q) x in
-      let from = (every-split s (every-filter W (everywhere (wanted-since n) xs))).1 in
-      let (again, on) = since-place (increasing-filter W h) s in (
-        filter-filter _ W (at_least a.place) (λ b. wanted-later n a.place b from) xs ∙ again,
-        filter-filter _ W (at_least (a.place + 1)) (λ b. wanted-later n (a.place + 1) b (omega arith)) xs ∙ on,
+      let from = (every_split s (every_filter W (everywhere (wanted_since n) xs))).1 in
+      let (again, on) = since_place (increasing_filter W h) s in (
+        filter_filter _ W (at_least a.place) (λ b. wanted_later n a.place b from) xs ∙ again,
+        filter_filter _ W (at_least (a.place + 1)) (λ b. wanted_later n (a.place + 1) b (omega arith)) xs ∙ on,
       )

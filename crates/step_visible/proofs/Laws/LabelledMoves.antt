@@ -9,14 +9,14 @@ use Rattle.meaning.specs.Messages.Term.{Message}
 use Rattle.meaning.specs.Bytes.Process.{Prefix, output, input}
 use Rattle.meaning.specs.Places.{Every, ◌also◌}
 use Rattle.meaning.specs.Steps.State
-use Rattle.meaning.proofs.Every.{every-parts}
+use Rattle.meaning.proofs.Every.{every_parts}
 use Rattle.state_record.specs.Record.{Placed}
 use Rattle.state_layout.specs.Layout.{StateAt}
 use Rattle.state_record.specs.declared.state.State as code
 use Rattle.step_located.specs.Located.{LocatedOffer, prefixed}
 use Rattle.step_located.specs.Sought.{wanted}
-use Rattle.step_transition.specs.Focus.{Focus, recordAt}
-use Rattle.step_transition.specs.Moves.{Move, alone, inside, between, labelled, labelledMoves}
+use Rattle.step_transition.specs.Focus.{Focus, record_at}
+use Rattle.step_transition.specs.Moves.{Move, alone, inside, between, labelled, labelled_moves}
 use Rattle.step_transition.specs.Threads.{Threads}
 use Rattle.state_layout.specs.Loaded.{IsRunOf}
 use Rattle.step_transition.specs.Step.{step_of, Shown}
@@ -26,7 +26,7 @@ use Rattle.step_label.specs.declared.step.Actor.{Actor}
 use Rattle.step_label.specs.declared.step.Label.{Label}
 use Rattle.step_label.specs.declared.step.Label.TheVariants.{Output, Input}
 use Rattle.step_label.specs.declared.step.Next.{Next}
-use Rattle.step_visible.proofs.Laws.LabelledBehind.{Offered, moves-offered}
+use Rattle.step_visible.proofs.Laws.LabelledBehind.{Offered, moves_offered}
 use Rattle.index_process.specs.Index.{ShortModel}
 
 -- The label of outputs, or of inputs, and which of the two threads of a step is the cursor.
@@ -34,15 +34,15 @@ abbrev pub label_of : Bool → Label
 label_of true = Output
 label_of false = Input
 
-abbrev pub cursorOf : Bool → Step → Actor
-cursorOf true step = step.sender
-cursorOf false step = step.taker
+abbrev pub cursor_of : Bool → Step → Actor
+cursor_of true step = step.sender
+cursor_of false step = step.taker
 
 -- The step of a move is the cursor of that move.
 record Points (sending : Bool) (start : ℕ) (p : Focus) (a : LocatedOffer) : Type 0 where
   label : (step_of start (alone p a)).label ≡ label_of sending
-  at : (cursorOf sending (step_of start (alone p a))).at ≡ recordAt start p
-  mark : (cursorOf sending (step_of start (alone p a))).mark ≡ a.place + 1
+  at : (cursor_of sending (step_of start (alone p a))).at ≡ record_at start p
+  mark : (cursor_of sending (step_of start (alone p a))).mark ≡ a.place + 1
 
 points : (sending : Bool) (x : Message) (start : ℕ) (p : Focus) (a : LocatedOffer) → wanted (labelled sending) x a ≡ true → Points sending start p a
 unfolding wanted step_of
@@ -69,37 +69,37 @@ pub record Asked (s channel : List ℕ) (st : code.State) (S : State.State) (ps 
 module _ {s channel : List ℕ} {st : code.State} {S : State.State} {ps : List Placed} {x : Message} {m out message : List ℕ} {r : Next}
     {after : List ℕ} (sending : Bool) (h : Asked s channel st S ps x m out message) where
   followed : {at from : ℕ} (ws : List Move) → NextVisible sending s channel st at from m out message r after
-      → Upcoming st.start at from (labelledMoves sending x S.next ps) ws → Shown st.start after r ws
+      → Upcoming st.start at from (labelled_moves sending x S.next ps) ws → Shown st.start after r ws
   followed {at} {from} ws f u =
       let same : S.next ≡ st.names = sym h.state.names in
       let t : Threads s out st.start st.names ps st.end = rw same at h.threads in
-      let v : Upcoming st.start at from (labelledMoves sending x st.names ps) ws = rw same at u in
+      let v : Upcoming st.start at from (labelled_moves sending x st.names ps) ws = rw same at u in
       f.exact ps x ws t h.channelled h.short h.work h.room h.fits (omega (arith, h.few)) v
 
 module _ {s channel : List ℕ} {st : code.State} {S : State.State} {ps : List Placed} {x : Message} {m out message : List ℕ} {r : Next}
     {after : List ℕ} {step : Step} (h : Asked s channel st S ps x m out message)
     (n : NextLabelled s channel st step m out message r after) where
   chosen : (sending : Bool) → step.label ≡ label_of sending
-      → NextVisible sending s channel st (cursorOf sending step).at (cursorOf sending step).mark m out message r after
+      → NextVisible sending s channel st (cursor_of sending step).at (cursor_of sending step).mark m out message r after
   chosen true e = n.output e
   chosen false e = n.input e
 
   -- From the cursor before the first step, the answer is the first of the moves.
-  pub first-shown : (sending : Bool) → step.label ≡ label_of sending → (cursorOf sending step).at ≡ st.start
-      → (cursorOf sending step).mark ≡ 0 → Shown st.start after r (labelledMoves sending x S.next ps)
-  first-shown sending e f g = followed sending h (labelledMoves sending x S.next ps) (chosen sending e) (all f g)
+  pub first_shown : (sending : Bool) → step.label ≡ label_of sending → (cursor_of sending step).at ≡ st.start
+      → (cursor_of sending step).mark ≡ 0 → Shown st.start after r (labelled_moves sending x S.next ps)
+  first_shown sending e f g = followed sending h (labelled_moves sending x S.next ps) (chosen sending e) (all f g)
 
   -- From the step of a move, it is the first of those that come later.
-  pub later-shown : (sending : Bool) (before : List Move) (w : Move) (later : List Move)
-      → labelledMoves sending x S.next ps ≡ before ++ (w ∷ later) → step ≡ step_of st.start w → Shown st.start after r later
-  later-shown sending before w later e f = of w e f (every-parts before (rw e at (moves-offered sending x h.threads.judged))).1
+  pub later_shown : (sending : Bool) (before : List Move) (w : Move) (later : List Move)
+      → labelled_moves sending x S.next ps ≡ before ++ (w ∷ later) → step ≡ step_of st.start w → Shown st.start after r later
+  later_shown sending before w later e f = of w e f (every_parts before (rw e at (moves_offered sending x h.threads.judged))).1
     where
-      of : (w : Move) → labelledMoves sending x S.next ps ≡ before ++ (w ∷ later) → step ≡ step_of st.start w
+      of : (w : Move) → labelled_moves sending x S.next ps ≡ before ++ (w ∷ later) → step ≡ step_of st.start w
           → Every (Offered sending x) (w ∷ later) → Shown st.start after r later
       of (alone p a) e f ((o, small) also os) =
           let q = points sending x st.start p a o in
-          let at : (cursorOf sending step).at ≡ recordAt st.start p = rw f q.at in
-          let mark : (cursorOf sending step).mark ≡ a.place + 1 = rw f q.mark in
+          let at : (cursor_of sending step).at ≡ record_at st.start p = rw f q.at in
+          let mark : (cursor_of sending step).mark ≡ a.place + 1 = rw f q.mark in
           followed sending h later (chosen sending (rw f q.label)) (behind before p a e at mark)
       of (inside p j) e f (o also os) = absurd o
       of (between p t j) e f (o also os) = absurd o

@@ -7,7 +7,7 @@ use native.Mathlib.Omega.{arith}
 use lib.ListN.{length, take, drop, length-append}
 use Rattle.meaning.specs.Messages.Term.{Message}
 use Rattle.meaning.specs.Steps.State.{State}
-use Rattle.meaning.proofs.Every.{every-parts}
+use Rattle.meaning.proofs.Every.{every_parts}
 use Rattle.buffer.specs.Buffer.{Within}
 use Rattle.buffer.proofs.Laws.Buffer.{part}
 use Rattle.state_record.specs.declared.state.State as code
@@ -27,15 +27,15 @@ use Rattle.step_label.specs.declared.step.Next.TheVariants as next
 use Rattle.step_between.specs.Buffered.{Answered}
 use Rattle.step_next.specs.Next.{Nexts}
 use Rattle.successor_state.specs.Lead.{LeadsFor}
-use Rattle.successor_rebuild.proofs.Laws.Formed.{within-kept}
+use Rattle.successor_rebuild.proofs.Laws.Formed.{within_kept}
 use Rattle.successor_next.specs.Arrive.{Taken, Leaving, Leaves, LeavesBySending, ArrivedAt, Arrives}
 use Rattle.successor_next.specs.declared.arrive.Arrived.TheVariants.{By, None}
-use Rattle.successor_next.proofs.Laws.Sending.{Sending, moves-send}
+use Rattle.successor_next.proofs.Laws.Sending.{Sending, moves_send}
 
 -- What the step sends.
 pub sending : {s out : List ℕ} {st : code.State} {S : State} (h : WithinLimits s out st S) (l : Label) (x y : Message) (earlier others : List Move) (w : Move)
     → moves_of l x S.next h.at.placed ≡ earlier ++ (w ∷ others) → Sending l st.start y w
-sending {st = st} h l x y earlier others w e = every_first (every-parts earlier (rw e at (moves-send st.start y h.judged l x))).1
+sending {st = st} h l x y earlier others w e = every_first (every_parts earlier (rw e at (moves_send st.start y h.judged l x))).1
 
 -- The move, with the message that goes.
 moving : {s out message given taken : List ℕ} {st : code.State} {v : step.Step} {S : State} (h : WithinLimits s out st S) (y : Message) (w : Move)
@@ -53,8 +53,8 @@ moving h y w l g = record {
 
 -- Where a step leads.
 module _ {stepless : Bool} {s message m out after : List ℕ} {st : code.State} {v : step.Step} {r : Formed} where
-  pub leaves-input : {taken : List ℕ} → v.label ≡ Input → LeadsFor stepless s st v taken m out r after → Leaves stepless s taken message st v m out r after
-  leaves-input {taken} e d = record {
+  pub leaves_input : {taken : List ℕ} → v.label ≡ Input → LeadsFor stepless s st v taken m out r after → Leaves stepless s taken message st v m out r after
+  leaves_input {taken} e d = record {
     exact = λ S h y w l room.
         let f = sending h v.label l.channel y l.earlier l.others w l.listed in
         let same : carried y w ≡ y = f.taken e in
@@ -62,9 +62,9 @@ module _ {stepless : Bool} {s message m out after : List ℕ} {st : code.State} 
   }
 
   -- A message that is sent is at the front of its slice.
-  pub sends-part : {size : ℕ} → LeadsFor stepless s st v (take (size - 0) (drop 0 message)) m out r after → v.size ≡ size
+  pub sends_part : {size : ℕ} → LeadsFor stepless s st v (take (size - 0) (drop 0 message)) m out r after → v.size ≡ size
       → LeavesBySending stepless s message st v m out r after
-  sends-part {size} d e = record {
+  sends_part {size} d e = record {
     exact = λ n taken. record {
       exact = λ S h y w l room.
           let f = sending h v.label l.channel y l.earlier l.others w l.listed in
@@ -84,13 +84,13 @@ module _ {stepless : Bool} {s message m out after : List ℕ} {st : code.State} 
     };
   }
 
-  pub leaves-output : {taken : List ℕ} → v.label ≡ Output → LeavesBySending stepless s message st v m out r after → Leaves stepless s taken message st v m out r after
-  leaves-output {taken} e d = d.exact (λ i. absurd (let z : ◌≡◌ {A = ℕ} 0 1 = cc in omega arith)) taken
+  pub leaves_output : {taken : List ℕ} → v.label ≡ Output → LeavesBySending stepless s message st v m out r after → Leaves stepless s taken message st v m out r after
+  leaves_output {taken} e d = d.exact (λ i. absurd (let z : ◌≡◌ {A = ℕ} 0 1 = cc in omega arith)) taken
 
-  pub leaves-silent : {taken : List ℕ} → v.label ≡ Silent → LeavesBySending stepless s message st v m out r after → Leaves stepless s taken message st v m out r after
-  leaves-silent {taken} e d = d.exact (λ i. absurd (let z : ◌≡◌ {A = ℕ} 0 1 = cc in omega arith)) taken
+  pub leaves_silent : {taken : List ℕ} → v.label ≡ Silent → LeavesBySending stepless s message st v m out r after → Leaves stepless s taken message st v m out r after
+  leaves_silent {taken} e d = d.exact (λ i. absurd (let z : ◌≡◌ {A = ℕ} 0 1 = cc in omega arith)) taken
 
-pub ruleset leavings = (leaves-input, leaves-output, leaves-silent, sends-part, sends_none)
+pub ruleset leavings = (leaves_input, leaves_output, leaves_silent, sends_part, sends_none)
 
 -- The moves behind a step are some of the label's.
 pub listed : {l : Label} {start : ℕ} {ws others : List Move} {v : step.Step} → Behind l start ws v others
@@ -105,8 +105,8 @@ searching long o = record { short = o.short; wide = o.wide; room = omega (arith,
 -- The next step, and then where it leads.
 module _ {s channel m out buffered message : List ℕ} {st : code.State} {from : step.Step} {r : Next} {on said : List ℕ}
     (n : Nexts s channel st from m out buffered message r on said) where
-  pub arrives-none : {stepless : Bool} {taken after : List ℕ} → r ≡ next.None → Arrives stepless s channel taken st from m out buffered message None after on said
-  arrives-none {stepless} {taken} {after} e = record {
+  pub arrives_none : {stepless : Bool} {taken after : List ℕ} → r ≡ next.None → Arrives stepless s channel taken st from m out buffered message None after on said
+  arrives_none {stepless} {taken} {after} e = record {
     exact = λ S x y h c t o wide long {others} b. nowhere S h y others (n.exact S x h c (searching long o) wide b);
   }
     where
@@ -115,11 +115,11 @@ module _ {s channel m out buffered message : List ℕ} {st : code.State} {from :
       nowhere S h y [] d = refl
       nowhere S h y (w ∷ others) d = absurd (let z : ◌≡◌ {A = ℕ} 0 1 = cc in omega arith)
 
-  pub arrives-by : {stepless : Bool} {taken m₁ out₁ after : List ℕ} {v : step.Step} {f : Formed} {high high₁ : ℕ} → r ≡ next.Found v
+  pub arrives_by : {stepless : Bool} {taken m₁ out₁ after : List ℕ} {v : step.Step} {f : Formed} {high high₁ : ℕ} → r ≡ next.Found v
       → Within 0 high m m₁ → Within st.end high₁ out out₁ → Leaves stepless s taken said st v m₁ out₁ f after
       → Arrives stepless s channel taken st from m out buffered message (By v f) after on said
-  unfolding within-kept
-  arrives-by {stepless} {taken} {m₁} {out₁} {after} {v} {f} e wm wo d = record {
+  unfolding within_kept
+  arrives_by {stepless} {taken} {m₁} {out₁} {after} {v} {f} e wm wo d = record {
     exact = λ S x y h c t o wide long {others} b. by S x y h t o others b.behind (n.exact S x h c (searching long o) wide b);
   }
     where
@@ -132,7 +132,7 @@ module _ {s channel m out buffered message : List ℕ} {st : code.State} {from :
           let (earlier, there) = listed b in
           let sends = sending h from.label x y earlier others w there in
           let label : from.label ≡ v.label = sym sends.label ∙ sym (ap (λ u. u.label) same) in
-          let leaving : Leaving s out₁ st S (within-kept wo h) v taken said y w =
+          let leaving : Leaving s out₁ st S (within_kept wo h) v taken said y w =
           record {
             channel = x;
             earlier = earlier;
@@ -149,4 +149,4 @@ module _ {s channel m out buffered message : List ℕ} {st : code.State} {from :
             room = omega (arith, o.room, wo.long);
             few = o.few;
           } in
-          (f, rw same, d.exact S (within-kept wo h) y w leaving room, kept)
+          (f, rw same, d.exact S (within_kept wo h) y w leaving room, kept)

@@ -8,12 +8,12 @@ use lib.ListN.{length}
 use Rattle.meaning.specs.Messages.Term.{Term, Message, leaf, private}
 use Rattle.meaning.specs.Messages.Equation.{Normal}
 use Rattle.meaning.specs.Messages.Normal.{normal}
-use Rattle.meaning.specs.Bytes.Process.{Process, new, if, let-in, par, repl}
-use Rattle.meaning.specs.Bytes.Encoding.{encodeTerm}
+use Rattle.meaning.specs.Bytes.Process.{Process, new, if, let_in, par, repl}
+use Rattle.meaning.specs.Bytes.Encoding.{encode_term}
 use Rattle.meaning.specs.Bytes.Nesting.{variables}
 use Rattle.meaning.specs.Bytes.Standing.{Stands}
 use Rattle.meaning.specs.Steps.State.{Bound, ◌▸◌, written, worked, names}
-use Rattle.meaning.proofs.Messages.{normalForms}
+use Rattle.meaning.proofs.Messages.{normal_forms}
 use Rattle.meaning.proofs.Bytes.Reading.Place.{◌⨾◌}
 use Rattle.buffer.specs.Buffer.{Within}
 use Rattle.buffer.proofs.Laws.Buffer.{unchanged}
@@ -23,45 +23,45 @@ use Rattle.message_term.specs.Bound.{Binds}
 use Rattle.message_term.specs.Work.{BindWorked}
 use Rattle.message_term.specs.declared.work.Worked.{Worked}
 use Rattle.message_term.specs.declared.work.Worked.TheVariants.{Done, TooLarge}
-use Rattle.message_term.proofs.Laws.Work.{said-over, said-small}
-use Rattle.message_term.proofs.Theorems.{boundFurther}
-use Rattle.state_record.specs.Place.{ProcessAt, thenAt, elseAt, body_at, rightAt}
+use Rattle.message_term.proofs.Laws.Work.{said_over, said_small}
+use Rattle.message_term.proofs.Theorems.{bound_further}
+use Rattle.state_record.specs.Place.{ProcessAt, then_at, else_at, body_at, right_at}
 use Rattle.state_task.specs.Place.{Contains}
-use Rattle.state_record.proofs.Laws.Process.{in-model, Shape, shaped, of-new, of-if, of-let, of-par, of-repl}
-use Rattle.state_task.proofs.Laws.Bound.{bound_at, bound-still}
+use Rattle.state_record.proofs.Laws.Process.{in_model, Shape, shaped, of_new, of_if, of_let, of_par, of_repl}
+use Rattle.state_task.proofs.Laws.Bound.{bound_at, bound_still}
 use Rattle.step_located.specs.Located.{inside}
-use Rattle.step_located.proofs.Laws.Located.{inside-bounds, left-only}
-use Rattle.step_located.proofs.Laws.Marks.{holds-inside}
+use Rattle.step_located.proofs.Laws.Located.{inside_bounds, left_only}
+use Rattle.step_located.proofs.Laws.Marks.{holds_inside}
 use Rattle.successor_path.specs.Reach.{Site, Down, here, made, then, else, body, leftward, rightward, copied, Prepared, Allowed, Takes}
 use Rattle.successor_path.specs.Reach.{Leads, LeadsPastIf, LeadsPastAny, NewLeadsPast, IfLeadsPast}
 use Rattle.successor_path.specs.declared.reach.Way.{Way}
-use Rattle.successor_path.proofs.Laws.Reach.{longer, to-settle}
-use Rattle.successor_path.proofs.Laws.ReachDown.{down-inside, allowed-new, allowed_then, allowed-else, allowed-let, allowed-par}
-use Rattle.successor_path.proofs.Laws.ReachDown.{allowed-copy}
+use Rattle.successor_path.proofs.Laws.Reach.{longer, to_settle}
+use Rattle.successor_path.proofs.Laws.ReachDown.{down_inside, allowed_new, allowed_then, allowed_else, allowed_let, allowed_par}
+use Rattle.successor_path.proofs.Laws.ReachDown.{allowed_copy}
 
 -- The mark is in a process in which it is known to be, and in no other.
-mark-held : {s : List ℕ} {at mark next : ℕ} {b : Bool} (w : Site) (P : Process) → Contains s at mark b → InModel s at P next
+mark_held : {s : List ℕ} {at mark next : ℕ} {b : Bool} (w : Site) (P : Process) → Contains s at mark b → InModel s at P next
     → mark ≡ w.place + 1 → inside w.place at P ≡ b
-mark-held {at} w P h p e = sym (h.exact P p ∙ rw e (holds-inside w.place at P))
+mark_held {at} w P h p e = sym (h.exact P p ∙ rw e (holds_inside w.place at P))
 
 -- What is prepared for a process is for a part of it, and for one under one message more.
 module _ {s m m₁ : List ℕ} {at left end next to : ℕ} {ρ : Bound} where
-  pub prepared-part : {P : Process} {high : ℕ} (Q : Process) → Prepared s at left m end P ρ → variables Q ≤ variables P
+  pub prepared_part : {P : Process} {high : ℕ} (Q : Process) → Prepared s at left m end P ρ → variables Q ≤ variables P
       → ProcessAt s next (left - 1) (length ρ) Q to → Within end high m m₁ → Prepared s next (left - 1) m₁ end Q ρ
-  prepared-part Q y v p k = record {
+  prepared_part Q y v p k = record {
     next = to;
     process = p;
-    bound = bound-still y.bound k;
+    bound = bound_still y.bound k;
     room = omega (arith, y.room, k.long);
   }
 
-  prepared-bound : {P : Process} {last : ℕ} (Q : Process) (z : Message) → Prepared s at left m end P ρ → variables P ≡ 1 + variables Q
+  prepared_bound : {P : Process} {last : ℕ} (Q : Process) (z : Message) → Prepared s at left m end P ρ → variables P ≡ 1 + variables Q
       → ProcessAt s next (left - 1) (suc (length ρ)) Q to → Normal z → Binds m end z last m₁ → length m₁ ≡ length m → last ≤ end + 512
       → Prepared s next (left - 1) m₁ last Q (ρ ▸ z)
-  prepared-bound {P} {last} Q z y v p n b l e = record {
+  prepared_bound {P} {last} Q z y v p n b l e = record {
     next = to;
     process = rw (← longer ρ z) at p;
-    bound = boundFurther m m₁ 0 end last ρ z y.bound n (omega (arith, y.process.few)) b;
+    bound = bound_further m m₁ 0 end last ρ z y.bound n (omega (arith, y.process.few)) b;
     room = omega (arith, y.room);
   }
 
@@ -71,9 +71,9 @@ Passing s m f mark r after P =
     (ρ : Bound) (w : Site) → Prepared s f.at f.left m f.end P ρ → Allowed P ρ f.names f.opens
     → Down P f.at ρ f.names f.opens w → mark ≡ w.place + 1 → (f.at + 1 ≡ mark → ⊥) → Leads s after r w
 
-passes-if : {s m after : List ℕ} {f r : Way} {mark : ℕ} (kind : ℕ) → ((P : Process) → Shape kind P → Passing s m f mark r after P)
+passes_if : {s m after : List ℕ} {f r : Way} {mark : ℕ} (kind : ℕ) → ((P : Process) → Shape kind P → Passing s m f mark r after P)
     → LeadsPastIf kind s m f mark r after
-passes-if kind h = record {
+passes_if kind h = record {
   exact = λ c. record {
     exact = λ o. record {
       exact = λ w l e. h l.process (shaped kind l.process l.prepared.process c) l.bound w l.prepared l.allowed l.down e o;
@@ -83,16 +83,16 @@ passes-if kind h = record {
 
 -- New.
 module _ {m : List ℕ} {f : Way} where
-  pub new-over : {r : Way} {after : List ℕ} → 32759 < f.names → NewLeadsPast m f r after
-  new-over h = record {
-    exact = λ s. record { exact = λ mark. passes-if 1 λ P (Q, e) ρ w y a. absurd (omega (arith, (rw e at a).own)) };
+  pub new_over : {r : Way} {after : List ℕ} → 32759 < f.names → NewLeadsPast m f r after
+  new_over h = record {
+    exact = λ s. record { exact = λ mark. passes_if 1 λ P (Q, e) ρ w y a. absurd (omega (arith, (rw e at a).own)) };
   }
 
-  pub new-passed : {m₁ : List ℕ} {last : ℕ} → Binds m f.end (leaf (private f.names)) last m₁ → Within f.end (f.end + 4) m m₁
+  pub new_passed : {m₁ : List ℕ} {last : ℕ} → Binds m f.end (leaf (private f.names)) last m₁ → Within f.end (f.end + 4) m m₁
       → last ≡ f.end + 4
       → NewLeadsPast m f (record { at = f.at + 1; left = f.left - 1; end = last; names = f.names + 1; opens = f.opens }) m₁
   unfolding normal
-  new-passed {m₁} {last} b h l = record { exact = λ s. record { exact = λ mark. passes-if 1 λ P (Q, e). rw e (one Q) } }
+  new_passed {m₁} {last} b h l = record { exact = λ s. record { exact = λ mark. passes_if 1 λ P (Q, e). rw e (one Q) } }
     where
       one : {s : List ℕ} {mark : ℕ} (P : Process) →
           Passing s m f mark (record { at = f.at + 1; left = f.left - 1; end = last; names = f.names + 1; opens = f.opens }) m₁ (new P)
@@ -103,161 +103,161 @@ module _ {m : List ℕ} {f : Way} where
           rw next (record {
             process = P;
             bound = ρ ▸ x;
-            prepared = prepared-bound P x y refl (of-new P y.process) (normalForms x).0 b h.long (omega arith);
-            allowed = allowed-new P a;
+            prepared = prepared_bound P x y refl (of_new P y.process) (normal_forms x).0 b h.long (omega arith);
+            allowed = allowed_new P a;
             down = d;
           })
 
-pub ruleset news-passed = (new-over, new-passed)
+pub ruleset news_passed = (new_over, new_passed)
 
 -- Where the first branch of an if stands.
-first-there : {s : List ℕ} {at left first : ℕ} → TermsEnd s (at + 1) 2 first → (M N : Term) (P Q : Process) {scope next : ℕ}
-    → ProcessAt s at left scope (if M N P Q) next → first ≡ thenAt at M N
-first-there {s} {at} t M N P Q p =
-    let (a, b, c, d) = of-if M N P Q p in
-    let last : Stands s (body_at at M) (encodeTerm N ++ []) (thenAt at M N) = rw append-nil b.stands in
-    let both : Stands s (at + 1) (encodeTerm M ++ (encodeTerm N ++ [])) (thenAt at M N) = a.stands ⨾ last in
+first_there : {s : List ℕ} {at left first : ℕ} → TermsEnd s (at + 1) 2 first → (M N : Term) (P Q : Process) {scope next : ℕ}
+    → ProcessAt s at left scope (if M N P Q) next → first ≡ then_at at M N
+first_there {s} {at} t M N P Q p =
+    let (a, b, c, d) = of_if M N P Q p in
+    let last : Stands s (body_at at M) (encode_term N ++ []) (then_at at M N) = rw append-nil b.stands in
+    let both : Stands s (at + 1) (encode_term M ++ (encode_term N ++ [])) (then_at at M N) = a.stands ⨾ last in
     t.same (record { trees = M ∷ N ∷ []; many = refl; there = both })
 
 -- If: the branch that has the mark in it is the one that is taken.
 module _ {s : List ℕ} {f : Way} {mark first : ℕ} (t : TermsEnd s (f.at + 1) 2 first) where
-  pub then-passed : {b : Bool} → Contains s first mark b → b ≡ true
+  pub then_passed : {b : Bool} → Contains s first mark b → b ≡ true
       → IfLeadsPast s f mark (record { at = first; left = f.left - 1; end = f.end; names = f.names; opens = f.opens })
-  then-passed {b} h is = record { exact = λ m. passes-if 4 λ P (M, N, Q, R, e). rw e (one M N Q R) }
+  then_passed {b} h is = record { exact = λ m. passes_if 4 λ P (M, N, Q, R, e). rw e (one M N Q R) }
     where
       one : {m : List ℕ} (M N : Term) (P Q : Process)
           → Passing s m f mark (record { at = first; left = f.left - 1; end = f.end; names = f.names; opens = f.opens }) m (if M N P Q)
       one M N P Q ρ w y a here e o = absurd (o (omega arith))
       one M N P Q ρ w y a (then z d) e o =
-          let (i, j, p, q) = of-if M N P Q y.process in
-          rw (first-there t M N P Q y.process) (record {
+          let (i, j, p, q) = of_if M N P Q y.process in
+          rw (first_there t M N P Q y.process) (record {
             process = P;
             bound = ρ;
-            prepared = prepared-part P y (omega arith) p (unchanged {low = f.end} {high = f.end});
+            prepared = prepared_part P y (omega arith) p (unchanged {low = f.end} {high = f.end});
             allowed = allowed_then M N P Q z a;
             down = d;
           })
       one M N P Q ρ w y a (else z d) e o =
-          let (i, j, p, q) = of-if M N P Q y.process in
-          let there = first-there t M N P Q y.process in
-          let inner : inside w.place (thenAt f.at M N) P ≡ true = mark-held w P (rw there at h) (in-model p) e ∙ is in
-          let (low, high) = inside-bounds w.place (thenAt f.at M N) P inner in
-          let (low', high') = inside-bounds w.place (elseAt f.at M N P) Q (down-inside w d) in
+          let (i, j, p, q) = of_if M N P Q y.process in
+          let there = first_there t M N P Q y.process in
+          let inner : inside w.place (then_at f.at M N) P ≡ true = mark_held w P (rw there at h) (in_model p) e ∙ is in
+          let (low, high) = inside_bounds w.place (then_at f.at M N) P inner in
+          let (low', high') = inside_bounds w.place (else_at f.at M N P) Q (down_inside w d) in
           absurd (omega arith)
 
-  pub else-passed : {b : Bool} {second : ℕ} → Contains s first mark b → b ≡ false → Ends s first second
+  pub else_passed : {b : Bool} {second : ℕ} → Contains s first mark b → b ≡ false → Ends s first second
       → IfLeadsPast s f mark (record { at = second; left = f.left - 1; end = f.end; names = f.names; opens = f.opens })
-  else-passed {b} {second} h is l = record { exact = λ m. passes-if 4 λ P (M, N, Q, R, e). rw e (one M N Q R) }
+  else_passed {b} {second} h is l = record { exact = λ m. passes_if 4 λ P (M, N, Q, R, e). rw e (one M N Q R) }
     where
       one : {m : List ℕ} (M N : Term) (P Q : Process)
           → Passing s m f mark (record { at = second; left = f.left - 1; end = f.end; names = f.names; opens = f.opens }) m (if M N P Q)
       one M N P Q ρ w y a here e o = absurd (o (omega arith))
       one M N P Q ρ w y a (then z d) e o =
-          let (i, j, p, q) = of-if M N P Q y.process in
-          let there = first-there t M N P Q y.process in
-          let outer : inside w.place (thenAt f.at M N) P ≡ false = mark-held w P (rw there at h) (in-model p) e ∙ is in
-          absurd (true≢false (sym (down-inside w d) ∙ outer))
+          let (i, j, p, q) = of_if M N P Q y.process in
+          let there = first_there t M N P Q y.process in
+          let outer : inside w.place (then_at f.at M N) P ≡ false = mark_held w P (rw there at h) (in_model p) e ∙ is in
+          absurd (true≢false (sym (down_inside w d) ∙ outer))
       one M N P Q ρ w y a (else z d) e o =
-          let (i, j, p, q) = of-if M N P Q y.process in
-          let there = first-there t M N P Q y.process in
-          let behind : second ≡ elseAt f.at M N P = (rw there at l).same P (in-model p) in
+          let (i, j, p, q) = of_if M N P Q y.process in
+          let there = first_there t M N P Q y.process in
+          let behind : second ≡ else_at f.at M N P = (rw there at l).same P (in_model p) in
           rw behind (record {
             process = Q;
             bound = ρ;
-            prepared = prepared-part Q y (omega arith) q (unchanged {low = f.end} {high = f.end});
-            allowed = allowed-else M N P Q z a;
+            prepared = prepared_part Q y (omega arith) q (unchanged {low = f.end} {high = f.end});
+            allowed = allowed_else M N P Q z a;
             down = d;
           })
 
-pub ruleset ifs-passed = (then-passed, else-passed)
+pub ruleset ifs_passed = (then_passed, else_passed)
 
 -- Let.
 module _ {s m m₁ : List ℕ} {f : Way} {t : Worked} (b : BindWorked s (f.at + 1) m 0 f.end t m₁) where
-  pub let-over : {r : Way} {after : List ℕ} → t ≡ TooLarge → LeadsPastAny 5 s m f r after
-  let-over is = record {
-    exact = λ mark. passes-if 5 λ P (M, Q, e) ρ w y a.
-        let (i, p) = of-let M Q (rw e at y).process in
-        let (small, rest) = allowed-let M Q (rw e at a) in
-        absurd (true≢false (sym (said-over _ _ _ (b.answer M ρ i (bound_at y.bound)) is) ∙ small));
+  pub let_over : {r : Way} {after : List ℕ} → t ≡ TooLarge → LeadsPastAny 5 s m f r after
+  let_over is = record {
+    exact = λ mark. passes_if 5 λ P (M, Q, e) ρ w y a.
+        let (i, p) = of_let M Q (rw e at y).process in
+        let (small, rest) = allowed_let M Q (rw e at a) in
+        absurd (true≢false (sym (said_over _ _ _ (b.answer M ρ i (bound_at y.bound)) is) ∙ small));
   }
 
-  pub let-passed : {next last : ℕ} → t ≡ Done next last → Within f.end (f.end + 4098) m m₁ → last ≤ f.end + 2 + 510
+  pub let_passed : {next last : ℕ} → t ≡ Done next last → Within f.end (f.end + 4098) m m₁ → last ≤ f.end + 2 + 510
       → LeadsPastAny 5 s m f (record { at = next; left = f.left - 1; end = last; names = f.names; opens = f.opens }) m₁
-  let-passed {next} {last} is h l = record { exact = λ mark. passes-if 5 λ P (M, Q, e). rw e (one M Q) }
+  let_passed {next} {last} is h l = record { exact = λ mark. passes_if 5 λ P (M, Q, e). rw e (one M Q) }
     where
       one : {mark : ℕ} (M : Term) (P : Process)
-          → Passing s m f mark (record { at = next; left = f.left - 1; end = last; names = f.names; opens = f.opens }) m₁ (let-in M P)
+          → Passing s m f mark (record { at = next; left = f.left - 1; end = last; names = f.names; opens = f.opens }) m₁ (let_in M P)
       one M P ρ w y a here e o = absurd (o (omega arith))
       one M P ρ w y a (body d) e o =
-          let (i, p) = of-let M P y.process in
-          let (small, there, ends) = said-small _ _ _ (b.answer M ρ i (bound_at y.bound)) is in
+          let (i, p) = of_let M P y.process in
+          let (small, there, ends) = said_small _ _ _ (b.answer M ρ i (bound_at y.bound)) is in
           let run = b.run M ρ i (bound_at y.bound) small in
           rw there (record {
             process = P;
             bound = ρ ▸ worked ρ M;
-            prepared = prepared-bound P (worked ρ M) y refl p (normalForms (written ρ M)).0 (rw (← ends) at run) h.long (omega arith);
-            allowed = (allowed-let M P a).1;
+            prepared = prepared_bound P (worked ρ M) y refl p (normal_forms (written ρ M)).0 (rw (← ends) at run) h.long (omega arith);
+            allowed = (allowed_let M P a).1;
             down = d;
           })
 
-pub ruleset lets-passed = (let-over, let-passed)
+pub ruleset lets_passed = (let_over, let_passed)
 
 -- Par: the side that has the mark in it; the second is settled after the names of the first.
 module _ {s m : List ℕ} {f : Way} {mark : ℕ} {b : Bool} (h : Contains s (f.at + 1) mark b) where
   pub left_passed : b ≡ true
       → LeadsPastIf 6 s m f mark (record { at = f.at + 1; left = f.left - 1; end = f.end; names = f.names; opens = f.opens }) m
-  left_passed is = passes-if 6 λ P (Q, R, e). rw e (one Q R)
+  left_passed is = passes_if 6 λ P (Q, R, e). rw e (one Q R)
     where
       one : (P Q : Process)
           → Passing s m f mark (record { at = f.at + 1; left = f.left - 1; end = f.end; names = f.names; opens = f.opens }) m (par P Q)
       one P Q ρ w y a here e o = absurd (o (omega arith))
       one P Q ρ w y a (leftward d) e o =
-          let (p, q) = of-par P Q y.process in
+          let (p, q) = of_par P Q y.process in
           record {
             process = P;
             bound = ρ;
-            prepared = prepared-part P y (omega arith) p (unchanged {low = f.end} {high = f.end});
-            allowed = (allowed-par P Q a).0;
+            prepared = prepared_part P y (omega arith) p (unchanged {low = f.end} {high = f.end});
+            allowed = (allowed_par P Q a).0;
             down = d;
           }
       one P Q ρ w y a (rightward d) e o =
-          let (p, q) = of-par P Q y.process in
-          let inner : inside w.place (f.at + 1) P ≡ true = mark-held w P h (in-model p) e ∙ is in
-          absurd (true≢false (sym (down-inside w d) ∙ left-only w.place f.at P Q inner))
+          let (p, q) = of_par P Q y.process in
+          let inner : inside w.place (f.at + 1) P ≡ true = mark_held w P h (in_model p) e ∙ is in
+          absurd (true≢false (sym (down_inside w d) ∙ left_only w.place f.at P Q inner))
 
-  pub right-passed : {m₁ : List ℕ} {later mid high : ℕ} → b ≡ false → Takes s (f.at + 1) (f.left - 1) m f.end f.names later
+  pub right_passed : {m₁ : List ℕ} {later mid high : ℕ} → b ≡ false → Takes s (f.at + 1) (f.left - 1) m f.end f.names later
       → Within f.end high m m₁ → Ends s (f.at + 1) mid
       → LeadsPastIf 6 s m f mark (record { at = mid; left = f.left - 1; end = f.end; names = later; opens = f.opens }) m₁
-  right-passed {m₁} {later} {mid} is names_of i l = passes-if 6 λ P (Q, R, e). rw e (one Q R)
+  right_passed {m₁} {later} {mid} is names_of i l = passes_if 6 λ P (Q, R, e). rw e (one Q R)
     where
       one : (P Q : Process)
           → Passing s m f mark (record { at = mid; left = f.left - 1; end = f.end; names = later; opens = f.opens }) m₁ (par P Q)
       one P Q ρ w y a here e o = absurd (o (omega arith))
       one P Q ρ w y a (leftward d) e o =
-          let (p, q) = of-par P Q y.process in
-          absurd (true≢false (sym (down-inside w d) ∙ (mark-held w P h (in-model p) e ∙ is)))
+          let (p, q) = of_par P Q y.process in
+          absurd (true≢false (sym (down_inside w d) ∙ (mark_held w P h (in_model p) e ∙ is)))
       one P Q ρ w y a (rightward d) e o =
-          let (p, q) = of-par P Q y.process in
-          let (u, u') = allowed-par P Q a in
-          let first = prepared-part P y (omega arith) p (unchanged {low = f.end} {high = f.end}) in
-          let next : later ≡ names P ρ f.names = names_of.exact P ρ (to-settle first u.own) u.settling in
-          let behind : mid ≡ rightAt f.at P = l.same P (in-model p) in
-          rw (behind, next) (record { process = Q; bound = ρ; prepared = prepared-part Q y (omega arith) q i; allowed = u'; down = d })
+          let (p, q) = of_par P Q y.process in
+          let (u, u') = allowed_par P Q a in
+          let first = prepared_part P y (omega arith) p (unchanged {low = f.end} {high = f.end}) in
+          let next : later ≡ names P ρ f.names = names_of.exact P ρ (to_settle first u.own) u.settling in
+          let behind : mid ≡ right_at f.at P = l.same P (in_model p) in
+          rw (behind, next) (record { process = Q; bound = ρ; prepared = prepared_part Q y (omega arith) q i; allowed = u'; down = d })
 
-pub ruleset sides-passed = (left_passed, right-passed)
+pub ruleset sides_passed = (left_passed, right_passed)
 
 -- Repl: the copy, in which copies open after its names.
 pub copy_passed : {s m m₁ : List ℕ} {f : Way} {later high : ℕ} → Takes s (f.at + 1) (f.left - 1) m f.end f.opens later
     → Within f.end high m m₁
     → LeadsPastAny 7 s m f (record { at = f.at + 1; left = f.left - 1; end = f.end; names = f.opens; opens = later }) m₁
-copy_passed {s} {m} {m₁} {f} {later} names_of i = record { exact = λ mark. passes-if 7 λ P (Q, e). rw e (one Q) }
+copy_passed {s} {m} {m₁} {f} {later} names_of i = record { exact = λ mark. passes_if 7 λ P (Q, e). rw e (one Q) }
   where
     one : {mark : ℕ} (P : Process)
         → Passing s m f mark (record { at = f.at + 1; left = f.left - 1; end = f.end; names = f.opens; opens = later }) m₁ (repl P)
     one P ρ w y a here e o = absurd (o (omega arith))
     one P ρ w y a (copied d) e o =
-        let p = of-repl P y.process in
-        let u = allowed-copy P a in
-        let first = prepared-part P y (omega arith) p (unchanged {low = f.end} {high = f.end}) in
-        let next : later ≡ names P ρ f.opens = names_of.exact P ρ (to-settle first u.own) u.settling in
-        rw next (record { process = P; bound = ρ; prepared = prepared-part P y (omega arith) p i; allowed = u; down = d })
+        let p = of_repl P y.process in
+        let u = allowed_copy P a in
+        let first = prepared_part P y (omega arith) p (unchanged {low = f.end} {high = f.end}) in
+        let next : later ≡ names P ρ f.opens = names_of.exact P ρ (to_settle first u.own) u.settling in
+        rw next (record { process = P; bound = ρ; prepared = prepared_part P y (omega arith) p i; allowed = u; down = d })

@@ -11,25 +11,25 @@ use Rattle.meaning.specs.Messages.Term.{Message}
 use Rattle.meaning.specs.Bytes.Process.{output, input}
 use Rattle.meaning.specs.Places.{Every, none, ◌also◌}
 use Rattle.meaning.specs.Steps.State.{Bound, State}
-use Rattle.meaning.specs.Judging.Limits.{boundNodes, threadNodes}
-use Rattle.meaning.proofs.Every.{every-parts}
+use Rattle.meaning.specs.Judging.Limits.{bound_nodes, thread_nodes}
+use Rattle.meaning.proofs.Every.{every_parts}
 use Rattle.meaning.proofs.Test.{neither}
 use Rattle.buffer.specs.Buffer.{Within}
 use Rattle.buffer.proofs.Laws.Buffer.{kept}
 use Rattle.message_term.specs.Bound.{BoundTo}
 use Rattle.state_record.specs.Record.{Placed}
-use Rattle.state_head.specs.Settled.{threadsOf}
+use Rattle.state_head.specs.Settled.{threads_of}
 use Rattle.state_progress.specs.TraversalResult.{Accumulated, TraversalResult, going, unless, further}
 use Rattle.state_progress.specs.Represented.{Represents, RepresentsResult}
 use Rattle.state_start.specs.Form.{state_of, Forms, Finishes}
-use Rattle.state_layout.specs.Layout.{StateAt, overArrival}
+use Rattle.state_layout.specs.Layout.{StateAt, over_arrival}
 use Rattle.state_progress.specs.Progress.{Extends}
 use Rattle.state_record.specs.declared.state.State as code
 use Rattle.state_start.specs.declared.form.Formed.{Formed}
 use Rattle.state_progress.specs.declared.progress.Progress.{Progress}
 use Rattle.step_transition.specs.Moves.{Move, alone, inside, between}
-use Rattle.step_transition.specs.Outcome.{Outcome, outcome, arrivalOf}
-use Rattle.step_transition.specs.Limits.{EveryMove, restOver, full}
+use Rattle.step_transition.specs.Outcome.{Outcome, outcome, arrival_of}
+use Rattle.step_transition.specs.Limits.{EveryMove, rest_over, full}
 use Rattle.step_transition.specs.WithinLimits.{WithinLimits}
 use Rattle.step_transition.specs.Step.{step_of}
 use Rattle.step_transition.specs.Behind.{moves_of}
@@ -39,15 +39,15 @@ use Rattle.successor_frame.specs.Aliases.{appended, Begun, Carries}
 use Rattle.step_label.specs.declared.step.Step as step
 use Rattle.step_label.specs.declared.step.Label.{Label}
 use Rattle.step_label.specs.declared.step.Label.TheVariants.{Output, Input, Silent}
-use Rattle.step_transition.proofs.Laws.Limits.{limitsJudged}
+use Rattle.step_transition.proofs.Laws.Limits.{limits_judged}
 use Rattle.state_head.proofs.Laws.Crowd.{crowded}
 use Rattle.step_located.specs.Located.{prefixed}
-use Rattle.state_progress.proofs.Laws.Written.{no-further, goes_further}
+use Rattle.state_progress.proofs.Laws.Written.{no_further, goes_further}
 
 -- What holds of every step holds of this one.
-pub every-move : {Q : Move → Type 0} (k : ℕ) (ps : List Placed) → EveryMove Q k ps → (l : Label) (c : Message)
+pub every_move : {Q : Move → Type 0} (k : ℕ) (ps : List Placed) → EveryMove Q k ps → (l : Label) (c : Message)
     (earlier others : List Move) (w : Move) → moves_of l c k ps ≡ earlier ++ (w ∷ others) → Q w
-every-move {Q} k ps (f, g) l c earlier others w e = first (every-parts earlier (rw e at (of l))).1
+every_move {Q} k ps (f, g) l c earlier others w e = first (every_parts earlier (rw e at (of l))).1
   where
     of : (l : Label) → Every Q (moves_of l c k ps)
     of Output = f true c
@@ -58,27 +58,27 @@ every-move {Q} k ps (f, g) l c earlier others w e = first (every-parts earlier (
     first (q also qs) = q
 
 -- The new aliases.
-pub aliases-after : (ps : List Placed) (k start : ℕ) (x : Message) (ρ : Bound) (w : Move)
+pub aliases_after : (ps : List Placed) (k start : ℕ) (x : Message) (ρ : Bound) (w : Move)
     → appended (sends (step_of start w).label) ρ (carried x w) ≡ ρ ++ (outcome ps k x w).alias
 unfolding step_of carried outcome
-aliases-after ps k start x ρ (alone p a) =
+aliases_after ps k start x ρ (alone p a) =
     elim a.prefix as (λ q. let v = alone p (prefixed a q) in
     appended (sends (step_of start v).label) ρ (carried x v) ≡ ρ ++ (outcome ps k x v).alias) [ output C M ↦ refl | input C ↦ rw append-nil ]
-aliases-after ps k start x ρ (inside p w) = rw append-nil
-aliases-after ps k start x ρ (between p q w) = rw append-nil
+aliases_after ps k start x ρ (inside p w) = rw append-nil
+aliases_after ps k start x ρ (between p q w) = rw append-nil
 
 -- What was written within the limits of threads and nodes, as a state.
 abbrev pub written : State → Outcome → Accumulated
 written S o = record {
   names = o.next;
-  nodes = boundNodes (S.aliases ++ o.alias) + threadNodes (threadsOf o.threads);
+  nodes = bound_nodes (S.aliases ++ o.alias) + thread_nodes (threads_of o.threads);
   threads = o.threads;
 }
 
 module _ (s after : List ℕ) (begin : ℕ) (S : State) (o : Outcome) (r : Progress)
     (aliases : r.state.aliases ≡ begin) (bound : BoundTo after begin (S.aliases ++ o.alias) r.state.start) where
-  stands-so : Represents s after r (written S o) → StateAt s after (state_of r) (arrivalOf S o).state
-  stands-so d = record {
+  stands_so : Represents s after r (written S o) → StateAt s after (state_of r) (arrival_of S o).state
+  stands_so d = record {
     aliases = rw aliases bound;
     placed = o.threads;
     threads = refl;
@@ -92,21 +92,21 @@ module _ (s after : List ℕ) (begin : ℕ) (S : State) (o : Outcome) (r : Progr
 
   -- The traversal met a limit, or it shows the threads.
   formed : {f : Formed} (over : Bool) → RepresentsResult s after r (unless over (going (written S o)))
-      → overArrival (arrivalOf S o) ≡ (over || ltb 128 o.next) → Finishes r f → Forms s begin (arrivalOf S o) f after
+      → over_arrival (arrival_of S o) ≡ (over || ltb 128 o.next) → Finishes r f → Forms s begin (arrival_of S o) f after
   formed true d e h = record {
     none = λ t. h.over d.off;
     some = λ t. absurd (true≢false (sym e ∙ t));
   }
   formed {f} false d e h = by_names (ltb 128 o.next) refl
     where
-      by_names : (b : Bool) → ltb 128 o.next ≡ b → Forms s begin (arrivalOf S o) f after
+      by_names : (b : Bool) → ltb 128 o.next ≡ b → Forms s begin (arrival_of S o) f after
       by_names true t = record {
         none = λ z. h.many (omega (arith, d.names, ltb-true 128 o.next t));
         some = λ z. absurd (true≢false (sym t ∙ sym e ∙ z));
       }
       by_names false t = record {
         none = λ z. absurd (true≢false (sym z ∙ e ∙ t));
-        some = λ z. (state_of r, h.state d.on (omega (arith, d.names, ltb-false 128 o.next t)), stands-so d, aliases);
+        some = λ z. (state_of r, h.state d.on (omega (arith, d.names, ltb-false 128 o.next t)), stands_so d, aliases);
       }
 
 -- The aliases are copied, the threads are written behind them, and the end is judged.
@@ -117,71 +117,71 @@ module _ {s message m out mid after : List ℕ} {st : code.State} {v : step.Step
     abbrev led : Outcome
     led = outcome h.at.placed S.next x w
 
-    abbrev now-aliases : Bound
-    now-aliases = S.aliases ++ led.alias
+    abbrev now_aliases : Bound
+    now_aliases = S.aliases ++ led.alias
 
-    limits : overArrival (arrivalOf S led) ≡ (restOver x w || full S led || ltb 128 led.next)
+    limits : over_arrival (arrival_of S led) ≡ (rest_over x w || full S led || ltb 128 led.next)
     limits =
-        every-move S.next h.at.placed (limitsJudged h.at.placed S x h.judged moving.stored) v.label moving.channel
+        every_move S.next h.at.placed (limits_judged h.at.placed S x h.judged moving.stored) v.label moving.channel
         moving.earlier moving.others w moving.listed
 
-    begun-or-not : (1024 < boundNodes now-aliases → b.going ≡ false)
-        × (boundNodes now-aliases ≤ 1024 → Begun s st.end now-aliases n b mid)
-    begun-or-not =
+    begun_or_not : (1024 < bound_nodes now_aliases → b.going ≡ false)
+        × (bound_nodes now_aliases ≤ 1024 → Begun s st.end now_aliases n b mid)
+    begun_or_not =
         let same = ap (λ u. appended (sends u.label) S.aliases (carried x w)) moving.same
-        ∙ aliases-after h.at.placed S.next st.start x S.aliases w in
+        ∙ aliases_after h.at.placed S.next st.start x S.aliases w in
         let inside = carries.exact s S.aliases (carried x w) h.at.aliases (omega (arith, h.at.records.size)) leading.few
         moving.labelled leading.room in
         rw (e, same) at inside
 
     -- Too many nodes in the aliases.
-    too_many : r.going ≡ false → 1024 < boundNodes now-aliases → Forms s st.end (arrivalOf S led) f after
+    too_many : r.going ≡ false → 1024 < bound_nodes now_aliases → Forms s st.end (arrival_of S led) f after
     too_many off z = record { none = λ t. finishes.over off; some = λ t. absurd (not_full (sym limits ∙ t)) }
       where
-        not_full : (restOver x w || full S led || ltb 128 led.next) ≡ false → ⊥
+        not_full : (rest_over x w || full S led || ltb 128 led.next) ≡ false → ⊥
         not_full t =
-            let (two, _) = neither (restOver x w || full S led) _ t in
-            let (_, filled) = neither (restOver x w) _ two in
+            let (two, _) = neither (rest_over x w || full S led) _ t in
+            let (_, filled) = neither (rest_over x w) _ two in
             let (_, heavy) = neither (ltb 32 (length led.threads)) _ filled in
-            omega (arith, ltb-false 1024 (threadNodes (threadsOf led.threads) + boundNodes now-aliases) heavy)
+            omega (arith, ltb-false 1024 (thread_nodes (threads_of led.threads) + bound_nodes now_aliases) heavy)
 
     -- Otherwise they stand, and the threads behind them.
-    enough : boundNodes now-aliases ≤ 1024 → RepresentsResult s after r (unless (restOver x w || full S led) (going (written S led)))
-        → Forms s st.end (arrivalOf S led) f after
+    enough : bound_nodes now_aliases ≤ 1024 → RepresentsResult s after r (unless (rest_over x w || full S led) (going (written S led)))
+        → Forms s st.end (arrival_of S led) f after
     enough z shown =
-        let begun = begun-or-not.1 z in
+        let begun = begun_or_not.1 z in
         let bound = begun.bound in
-        let bound-after : BoundTo after st.end now-aliases b.state.start =
+        let bound-after : BoundTo after st.end now_aliases b.state.start =
         record {
           stands = kept {low = b.state.end} bound.stands (omega (arith, begun.shows.records.size)) further.below;
           few = bound.few;
           normal = bound.normal;
         } in
         formed s after st.end S led r (extends.aliases ∙ begun.aliases)
-        (subst (λ (n : ℕ). BoundTo after st.end now-aliases n) (sym extends.start) bound-after)
-        (restOver x w || full S led) shown limits finishes
+        (subst (λ (n : ℕ). BoundTo after st.end now_aliases n) (sym extends.start) bound-after)
+        (rest_over x w || full S led) shown limits finishes
 
-    pub formed-behind : (b.going ≡ false → r.going ≡ false)
-        → (boundNodes now-aliases ≤ 1024 → Begun s st.end now-aliases n b mid
-        → RepresentsResult s after r (unless (restOver x w || full S led) (going (written S led)))) → Forms s st.end (arrivalOf S led) f after
-    formed-behind stopped shown = by-nodes (ltb 1024 (boundNodes now-aliases)) refl
+    pub formed_behind : (b.going ≡ false → r.going ≡ false)
+        → (bound_nodes now_aliases ≤ 1024 → Begun s st.end now_aliases n b mid
+        → RepresentsResult s after r (unless (rest_over x w || full S led) (going (written S led)))) → Forms s st.end (arrival_of S led) f after
+    formed_behind stopped shown = by_nodes (ltb 1024 (bound_nodes now_aliases)) refl
       where
-        by-nodes : (t : Bool) → ltb 1024 (boundNodes now-aliases) ≡ t → Forms s st.end (arrivalOf S led) f after
-        by-nodes true t = let z = ltb-true 1024 _ t in too_many (stopped (begun-or-not.0 z)) z
-        by-nodes false t = let z = ltb-false 1024 _ t in enough z (shown z (begun-or-not.1 z))
+        by_nodes : (t : Bool) → ltb 1024 (bound_nodes now_aliases) ≡ t → Forms s st.end (arrival_of S led) f after
+        by_nodes true t = let z = ltb-true 1024 _ t in too_many (stopped (begun_or_not.0 z)) z
+        by_nodes false t = let z = ltb-false 1024 _ t in enough z (shown z (begun_or_not.1 z))
 
 -- The test of what was written is that of the state.
-pub full-written : (S : State) (o : Outcome) → crowded (written S o) ≡ full S o
+pub full_written : (S : State) (o : Outcome) → crowded (written S o) ≡ full S o
 unfolding crowded
-full-written S o =
-    let sum : boundNodes (S.aliases ++ o.alias) + threadNodes (threadsOf o.threads) ≡ threadNodes (threadsOf o.threads) + boundNodes (S.aliases ++ o.alias)
+full_written S o =
+    let sum : bound_nodes (S.aliases ++ o.alias) + thread_nodes (threads_of o.threads) ≡ thread_nodes (threads_of o.threads) + bound_nodes (S.aliases ++ o.alias)
     = omega arith in
     ap (λ n. ltb 32 (length o.threads) || ltb 1024 n) sum
 
 -- A state stays where nothing is written before its end.
-unfoldable pub within-kept : {s out out₁ : List ℕ} {st : code.State} {S : State} {high : ℕ} → Within st.end high out out₁ → WithinLimits s out st S
+unfoldable pub within_kept : {s out out₁ : List ℕ} {st : code.State} {S : State} {high : ℕ} → Within st.end high out out₁ → WithinLimits s out st S
     → WithinLimits s out₁ st S
-within-kept {st = st} w h =
+within_kept {st = st} w h =
     let bound = h.at.aliases in
     record {
       at = record {
@@ -208,11 +208,11 @@ within-kept {st = st} w h =
     }
 
 -- What is settled after something else, if that goes on.
-pub then-shown : {s out after : List ℕ} {now r : Progress} (c : TraversalResult) (f : Accumulated → TraversalResult) → RepresentsResult s out now c
+pub then_shown : {s out after : List ℕ} {now r : Progress} (c : TraversalResult) (f : Accumulated → TraversalResult) → RepresentsResult s out now c
     → (now.going ≡ false → (r ≡ now) × (after ≡ out)) → ((g : Accumulated) → c ≡ going g → Represents s out now g → RepresentsResult s after r (f g))
     → RepresentsResult s after r (further c f)
-then-shown {s} {out} {after} {now} {r} c f d stopped on = by-going now.going refl
+then_shown {s} {out} {after} {now} {r} c f d stopped on = by_going now.going refl
   where
-    by-going : (b : Bool) → now.going ≡ b → RepresentsResult s after r (further c f)
-    by-going true e = goes_further s after r c f d e on
-    by-going false e = let (same, bytes) = stopped e in rw (same, bytes) (no-further s out now c f d e)
+    by_going : (b : Bool) → now.going ≡ b → RepresentsResult s after r (further c f)
+    by_going true e = goes_further s after r c f d e on
+    by_going false e = let (same, bytes) = stopped e in rw (same, bytes) (no_further s out now c f d e)

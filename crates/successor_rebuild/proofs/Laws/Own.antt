@@ -8,9 +8,9 @@ use lib.ListN.{length, length-append}
 use Rattle.meaning.specs.Bytes.Process.{Prefix, Process}
 use Rattle.meaning.specs.Steps.State.{Bound, Thread, act}
 use Rattle.state_record.specs.Record.{Placed}
-use Rattle.step_located.specs.Located.{LocatedOffer, replacedAs}
+use Rattle.step_located.specs.Located.{LocatedOffer, replaced_as}
 use Rattle.step_transition.specs.Focus.{Focus}
-use Rattle.step_transition.specs.Outcome.{replacedIn}
+use Rattle.step_transition.specs.Outcome.{replaced_in}
 use Rattle.successor_continuation.proofs.Laws.RestsMoves.{Among}
 
 -- The only element of a list.
@@ -22,14 +22,14 @@ only_one {A} b a m = of m.before m.listed
     of (x ∷ xs) e = absurd (omega (arith, ap length e, length-append xs (a ∷ m.after)))
 
 -- Such a thread, with its offer.
-abbrev pub focusOf : (before : List Placed) → ℕ → Thread → (behind : List Placed) → Focus
-focusOf before place u behind = record { before = before; thread = record { place = place; thread = u }; behind = behind }
+abbrev pub focus_of : (before : List Placed) → ℕ → Thread → (behind : List Placed) → Focus
+focus_of before place u behind = record { before = before; thread = record { place = place; thread = u }; behind = behind }
 
-abbrev pub offerOf : ℕ → Bound → Prefix → Process → ℕ → LocatedOffer
-offerOf place ρ q P k = record { place = place; bound = ρ; prefix = q; rest = P; next = k }
+abbrev pub offer_of : ℕ → Bound → Prefix → Process → ℕ → LocatedOffer
+offer_of place ρ q P k = record { place = place; bound = ρ; prefix = q; rest = P; next = k }
 
 -- What follows it stands in its place.
-pub own-place : (place : ℕ) (ρ : Bound) (q : Prefix) (P : Process) (k : ℕ) (z : List Placed)
-    → replacedIn (record { place = place; thread = act ρ q P }) place k z ≡ z
-unfolding replacedAs
-own-place place ρ q P k z = rw (eq-eqb place place refl, replacedAs)
+pub own_place : (place : ℕ) (ρ : Bound) (q : Prefix) (P : Process) (k : ℕ) (z : List Placed)
+    → replaced_in (record { place = place; thread = act ρ q P }) place k z ≡ z
+unfolding replaced_as
+own_place place ρ q P k z = rw (eq-eqb place place refl, replaced_as)

@@ -13,23 +13,23 @@ use Rattle.meaning.specs.Bytes.Process.{Process}
 use Rattle.meaning.specs.Steps.State.{Bound, names, settle}
 use Rattle.meaning.specs.Steps.Invariant.{BoundStored}
 use Rattle.meaning.specs.Logic.Truth.{any_of}
-use Rattle.meaning.specs.Judging.Limits.{overSettling, overOffers, threadNodes}
+use Rattle.meaning.specs.Judging.Limits.{over_settling, over_offers, thread_nodes}
 use Rattle.meaning.proofs.Test.{neither}
 use Rattle.state_record.specs.Record.{Placed}
 use Rattle.state_progress.specs.TraversalResult.{Accumulated, going, unless}
 use Rattle.state_task.specs.declared.task.Task.TheVariants.{Settle}
-use Rattle.state_head.specs.Settled.{settledTo, overSettled}
+use Rattle.state_head.specs.Settled.{settled_to, over_settled}
 use Rattle.state_head.specs.Traversal.{go}
 use Rattle.state_head.proofs.Laws.Settling.{settles}
-use Rattle.step_transition.specs.Focus.{Focus, focuses, focusesFrom}
-use Rattle.step_transition.specs.Outcome.{same, exchanged, bothExchanged}
-use Rattle.step_transition.proofs.Laws.MovesFocuses.{Stands, exchanged-is}
+use Rattle.step_transition.specs.Focus.{Focus, focuses, focuses_from}
+use Rattle.step_transition.specs.Outcome.{same, exchanged, both_exchanged}
+use Rattle.step_transition.proofs.Laws.MovesFocuses.{Stands, exchanged_is}
 
 -- What lists weigh, if two of them weigh what both do.
 module _ (μ : List Placed → ℕ) (nothing : μ [] ≡ 0) (joined : (xs ys : List Placed) → μ (xs ++ ys) ≡ μ xs + μ ys) where
-  pub one-weighs : (ps : List Placed) (p : Focus) (z : List Placed) → Stands ps p → μ (exchanged p z (focuses ps)) ≤ μ ps + μ z
-  one-weighs ps p z h =
-      rw (exchanged-is ps p z h, h.parts)
+  pub one_weighs : (ps : List Placed) (p : Focus) (z : List Placed) → Stands ps p → μ (exchanged p z (focuses ps)) ≤ μ ps + μ z
+  one_weighs ps p z h =
+      rw (exchanged_is ps p z h, h.parts)
       (omega (
         arith,
         joined p.before (z ++ p.behind),
@@ -39,16 +39,16 @@ module _ (μ : List Placed → ℕ) (nothing : μ [] ≡ 0) (joined : (xs ys : L
       ))
 
   -- Each of two lists takes the place of one thread at most.
-  pub both-weigh : (p q : Focus) (z y : List Placed) (ls ts : List Placed) (a b : ℕ) → (length ls ≤ length p.before → μ z ≤ a)
-      → (length ls ≤ length q.before → μ y ≤ b) → μ (bothExchanged p z q y (focusesFrom ls ts)) ≤ μ ts + a + b
-  unfolding focusesFrom bothExchanged flat_map
-  both-weigh p q z y ls [] a b f g = omega (arith, nothing)
-  both-weigh p q z y ls (t ∷ ts) a b f g =
+  pub both_weigh : (p q : Focus) (z y : List Placed) (ls ts : List Placed) (a b : ℕ) → (length ls ≤ length p.before → μ z ≤ a)
+      → (length ls ≤ length q.before → μ y ≤ b) → μ (both_exchanged p z q y (focuses_from ls ts)) ≤ μ ts + a + b
+  unfolding focuses_from both_exchanged flat_map
+  both_weigh p q z y ls [] a b f g = omega (arith, nothing)
+  both_weigh p q z y ls (t ∷ ts) a b f g =
       by_tests (eqb (length ls) (length p.before)) (eqb (length ls) (length q.before)) refl refl
-      (both-weigh p q z y (ls ++ (t ∷ [])) ts)
+      (both_weigh p q z y (ls ++ (t ∷ [])) ts)
     where
       others : List Placed
-      others = bothExchanged p z q y (focusesFrom (ls ++ (t ∷ [])) ts)
+      others = both_exchanged p z q y (focuses_from (ls ++ (t ∷ [])) ts)
 
       longer : length (ls ++ (t ∷ [])) ≡ length ls + 1
       longer = length-append ls (t ∷ [])
@@ -72,17 +72,17 @@ module _ (μ : List Placed → ℕ) (nothing : μ [] ≡ 0) (joined : (xs ys : L
 -- A process that was settled meets no limit of its own, and these are its threads.
 pub settled : (P : Process) (y : Message) (at : ℕ) (σ : Bound) (g h : Accumulated) → BoundStored g.names σ → length g.threads ≤ 32
     → g.nodes ≤ 1024 → go P Settle y at σ g ≡ going h
-    → ((overSettling P σ g.names || any_of (λ t. overOffers t (names P σ g.names)) (settle P σ g.names)) ≡ false)
-    × (h ≡ settledTo P at σ g)
-settled P y at σ g h b few light e = by-test (overSettled P σ g) refl (sym (settles P y at σ g b few light) ∙ e)
+    → ((over_settling P σ g.names || any_of (λ t. over_offers t (names P σ g.names)) (settle P σ g.names)) ≡ false)
+    × (h ≡ settled_to P at σ g)
+settled P y at σ g h b few light e = by_test (over_settled P σ g) refl (sym (settles P y at σ g b few light) ∙ e)
   where
-    by-test : (c : Bool) → overSettled P σ g ≡ c → unless c (going (settledTo P at σ g)) ≡ going h
-        → ((overSettling P σ g.names || any_of (λ t. overOffers t (names P σ g.names)) (settle P σ g.names)) ≡ false)
-        × (h ≡ settledTo P at σ g)
-    by-test true f d = absurd (let z : ◌≡◌ {A = ℕ} 0 1 = cc in omega arith)
-    by-test false f d =
+    by_test : (c : Bool) → over_settled P σ g ≡ c → unless c (going (settled_to P at σ g)) ≡ going h
+        → ((over_settling P σ g.names || any_of (λ t. over_offers t (names P σ g.names)) (settle P σ g.names)) ≡ false)
+        × (h ≡ settled_to P at σ g)
+    by_test true f d = absurd (let z : ◌≡◌ {A = ℕ} 0 1 = cc in omega arith)
+    by_test false f d =
         let ts = settle P σ g.names in
-        let (settling, others) = neither (overSettling P σ g.names) _ f in
-        let (room, offers) = neither (ltb 32 (length g.threads + length ts) || ltb 1024 (g.nodes + threadNodes ts)) _ others in
-        let same : settledTo P at σ g ≡ h = cc in
+        let (settling, others) = neither (over_settling P σ g.names) _ f in
+        let (room, offers) = neither (ltb 32 (length g.threads + length ts) || ltb 1024 (g.nodes + thread_nodes ts)) _ others in
+        let same : settled_to P at σ g ≡ h = cc in
         (rw (settling, offers), sym same)

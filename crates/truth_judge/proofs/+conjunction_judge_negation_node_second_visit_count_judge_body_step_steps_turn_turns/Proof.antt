@@ -47,8 +47,8 @@ use Rattle.truth_judge.proofs.+conjunction_judge_negation_node_second_visit_coun
 use Rattle.truth_judge.proofs.Laws.Falls.{lessening, falling}
 use Rattle.truth_judge.proofs.Laws.Visit.{judgings, visitings, kinds, sides}
 use Rattle.truth_judge.proofs.Laws.Body.{bodies, countings}
-use Rattle.truth_judge.proofs.Laws.Turn.{turn-none, turn_by}
-use Rattle.truth_judge.proofs.Laws.Loop.{Looping, looping-falls, loopings, steps-memo}
+use Rattle.truth_judge.proofs.Laws.Turn.{turn_none, turn_by}
+use Rattle.truth_judge.proofs.Laws.Loop.{Looping, looping_falls, loopings, steps_memo}
 use Rattle.truth_judge.proofs.Laws.Step.{steppings, shortness}
 
 abbrev μ-conjunction : Measures 4 conjunction-kinds.ps ℕ
@@ -149,7 +149,7 @@ turn-returns t c =
     )
 
 turn-returns-2 : (t : ℕ) → cycle.Lts-stepping-turn.Need-returns-2 (turn-claims t) (at 8 turn-kinds.ps μ-turn turn.Pre t) turn.Post
-turn-returns-2 t c = (search rules, (search rules, (search rules, (search rules, (search (rules, falling), search (rules, turn-none))))))
+turn-returns-2 t c = (search rules, (search rules, (search rules, (search rules, (search (rules, falling), search (rules, turn_none))))))
 
 -- All turns.
 turns-loop-holds : (t : ℕ) → cycle.Lts-stepping-turns.Need-loop-holds (turns-claims t) (at 6 turns-kinds.ps μ-turns turns.Pre t)
@@ -376,7 +376,7 @@ pub +conjunction-judge-negation-node-second-visit-count-judge-body-step-steps-tu
     (λ c κs. search rules)
     (λ c. search rules)
     (λ c. search rules)
-    (λ c. (search rules, (search rules, (search rules, search (rules, steps-memo))))))
+    (λ c. (search rules, (search rules, (search rules, search (rules, steps_memo))))))
     (λ t. cycle.Lts-stepping-turn.spec (turn-claims t) (at 8 turn-kinds.ps μ-turn turn.Pre t) turn.Post
     (turn-next-requires t)
     (λ c. search rules)
@@ -399,7 +399,7 @@ pub +conjunction-judge-negation-node-second-visit-count-judge-body-step-steps-tu
     (λ c. search (rules, loopings))
     (turns-turn-requires t)
     (λ c. search rules)
-    (λ c. search (rules, looping-falls))
+    (λ c. search (rules, looping_falls))
     (turns-loop-again t)
     (λ c. search rules)
     (λ c. search rules)

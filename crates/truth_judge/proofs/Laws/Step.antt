@@ -6,63 +6,63 @@ use Prim.Native.Nat.{ℕ, ◌+◌, ◌-◌, ◌≤◌}
 use native.Mathlib.Omega.{arith}
 use lib.ListN.{take, drop}
 use Rattle.meaning.specs.Bytes.Formula.{Label, Formula}
-use Rattle.meaning.specs.Judging.{someOf, judge}
-use Rattle.meaning.specs.Judging.Limits.{overLabel}
+use Rattle.meaning.specs.Judging.{some_of, judge}
+use Rattle.meaning.specs.Judging.Limits.{over_label}
 use Rattle.meaning.specs.Judging.Visits.{Arrival}
 use Rattle.buffer.specs.Buffer.{Within}
-use Rattle.buffer.proofs.Laws.Buffer.{one-after, wider}
+use Rattle.buffer.proofs.Laws.Buffer.{one_after, wider}
 use Rattle.state_record.specs.declared.state.State as code
 use Rattle.step_transition.specs.Behind.{moves_of, all}
 use Rattle.step_label.specs.declared.step.Step as step
-use Rattle.successor_rebuild.proofs.Laws.Formed.{within-kept}
-use Rattle.truth_label.specs.Head.{stepLabel, channelOf, taken_of, head_of, headedOf, Heads, Short}
+use Rattle.successor_rebuild.proofs.Laws.Formed.{within_kept}
+use Rattle.truth_label.specs.Head.{label_of_step, channel_of, taken_of, head_of, headed_of, Heads, Short}
 use Rattle.truth_label.specs.declared.head.Head as head
 use Rattle.truth_label.specs.declared.head.Headed.{Headed}
 use Rattle.truth_label.specs.declared.head.Headed.TheVariants.{By, TooLarge}
-use Rattle.truth_body.specs.Judged.{judgedOf}
+use Rattle.truth_body.specs.Judged.{judged_of}
 use Rattle.truth_body.specs.Reached.{Here}
 use Rattle.truth_judge.specs.Steps.{Stepped, Asked, judgements, AllSteps}
 use Rattle.truth_body.specs.declared.judged.Judged.{Judged}
 use Rattle.truth_body.specs.declared.judged.Judged.TheVariants.{Done}
-use Rattle.truth_body.proofs.Laws.Budget.{done-as}
-use Rattle.truth_body.proofs.Laws.Meets.{limit, judge-step}
-use Rattle.truth_judge.proofs.Laws.Arrivals.{judged-by}
-use Rattle.truth_body.proofs.Laws.Reached.{here-kept, room-kept, bound-here}
+use Rattle.truth_body.proofs.Laws.Budget.{done_as}
+use Rattle.truth_body.proofs.Laws.Meets.{limit, judge_step}
+use Rattle.truth_judge.proofs.Laws.Arrivals.{judged_by}
+use Rattle.truth_body.proofs.Laws.Reached.{here_kept, room_kept, bound_here}
 
 -- The label of a step formula is too large, or its steps are judged.
-said-large : (b : Bool) (h : head.Head) {r : Headed} → r ≡ headedOf b h → r ≡ TooLarge → b ≡ true
-unfolding headedOf
-said-large true h e d = refl
-said-large false h e d = absurd (let z : ◌≡◌ {A = ℕ} 0 1 = cc in omega arith)
+said_large : (b : Bool) (h : head.Head) {r : Headed} → r ≡ headed_of b h → r ≡ TooLarge → b ≡ true
+unfolding headed_of
+said_large true h e d = refl
+said_large false h e d = absurd (let z : ◌≡◌ {A = ℕ} 0 1 = cc in omega arith)
 
-said-head : (b : Bool) (h : head.Head) {g : head.Head} {r : Headed} → r ≡ headedOf b h → r ≡ By g → (b ≡ false) × (g ≡ h)
-unfolding headedOf
-said-head true h e d = absurd (let z : ◌≡◌ {A = ℕ} 0 1 = cc in omega arith)
-said-head false h e d = (refl, cc)
+said_head : (b : Bool) (h : head.Head) {g : head.Head} {r : Headed} → r ≡ headed_of b h → r ≡ By g → (b ≡ false) × (g ≡ h)
+unfolding headed_of
+said_head true h e d = absurd (let z : ◌≡◌ {A = ℕ} 0 1 = cc in omega arith)
+said_head false h e d = (refl, cc)
 
 module _ {s f m out out₁ channel taken : List ℕ} {kind at : ℕ} {st : code.State} {r : Headed}
     (heads : Heads f kind at st.aliases st.end out r channel taken)
     (within : Within st.end (st.end + 4096) out out₁) where
-  pub stepped-large : (depth left : ℕ) → r ≡ TooLarge → Stepped s f kind at depth st m out left (Done false true left) out₁
-  stepped-large depth left e = record {
+  pub stepped_large : (depth left : ℕ) → r ≡ TooLarge → Stepped s f kind at depth st m out left (Done false true left) out₁
+  stepped_large depth left e = record {
     exact = λ a F A {steps} {body} k label stands here room.
-        let to = heads.exact a A.state.aliases k label (bound-here here) in
-        let large = said-large (overLabel A.state.aliases a) (head_of A.state.aliases a body) to.answer e in
+        let to = heads.exact a A.state.aliases k label (bound_here here) in
+        let large = said_large (over_label A.state.aliases a) (head_of A.state.aliases a body) to.answer e in
         record {
-          answer = rw (judge-step A here.free a F, large) (done-as (left + 1) limit (omega arith) refl refl);
+          answer = rw (judge_step A here.free a F, large) (done_as (left + 1) limit (omega arith) refl refl);
           kept = wider within (omega arith) (omega (arith, here.early, room.long));
         };
   }
 
-  pub stepped-all : {depth left : ℕ} {h : head.Head} {j : Judged} {after : List ℕ} → r ≡ By h
+  pub stepped_all : {depth left : ℕ} {h : head.Head} {j : Judged} {after : List ℕ} → r ≡ By h
       → AllSteps s f h depth st (take (h.channel - 0) (drop 0 channel)) (take (h.taken - 0) (drop 0 taken)) m out₁ left j after
       → Stepped s f kind at depth st m out left j after
-  unfolding head_of here-kept within-kept
-  stepped-all {depth} {left} {h} {j} {after} e steps = record {
+  unfolding head_of here_kept within_kept
+  stepped_all {depth} {left} {h} {j} {after} e steps = record {
     exact = λ a F A {steps = n} {body} {next} k label stands here room.
         let ρ = A.state.aliases in
-        let to = heads.exact a ρ k label (bound-here here) in
-        let (small, same) = said-head (overLabel ρ a) (head_of ρ a body) to.answer e in
+        let to = heads.exact a ρ k label (bound_here here) in
+        let (small, same) = said_head (over_label ρ a) (head_of ρ a body) to.answer e in
         let c : (head_of ρ a body).channel - 0 ≡ (head_of ρ a body).channel = omega arith in
         let t : (head_of ρ a body).taken - 0 ≡ (head_of ρ a body).taken = omega arith in
         let g = head_of ρ a body in
@@ -75,8 +75,8 @@ module _ {s f m out out₁ channel taken : List ℕ} {kind at : ℕ} {st : code.
           next = next;
           same = refl;
           stands = stands;
-          here = here-kept within here;
-          room = room-kept refl within.long room;
+          here = here_kept within here;
+          room = room_kept refl within.long room;
           small = small;
           channelled = rw c (to.channelled small);
           taking = λ i. rw t (to.taking small i);
@@ -85,26 +85,26 @@ module _ {s f m out out₁ channel taken : List ℕ} {kind at : ℕ} {st : code.
         AllSteps s f h depth st (take (h.channel - 0) (drop 0 channel)) (take (h.taken - 0) (drop 0 taken)) m out₁ left j after) same steps in
         let comes = all.exact asked in
         record {
-          answer = comes.answer ∙ ap (judgedOf (left + 1)) (sym (of_steps A a F here small));
-          kept = one-after within comes.kept (omega arith) (omega arith) (omega (arith, here.early, room.long)) (omega (arith, within.long));
+          answer = comes.answer ∙ ap (judged_of (left + 1)) (sym (of_steps A a F here small));
+          kept = one_after within comes.kept (omega arith) (omega arith) (omega (arith, here.early, room.long)) (omega (arith, within.long));
         };
   }
     where
-      of_steps : (A : Arrival) (a : Label) (F : Formula) {n : ℕ} (here : Here s out st A n) → overLabel A.state.aliases a ≡ false
+      of_steps : (A : Arrival) (a : Label) (F : Formula) {n : ℕ} (here : Here s out st A n) → over_label A.state.aliases a ≡ false
           → judge (Formula.step a F) A
-          ≡ someOf (judgements F A.state here.within.at.placed (taken_of A.state.aliases a)
-          (moves_of (stepLabel a) (channelOf A.state.aliases a) A.state.next here.within.at.placed))
+          ≡ some_of (judgements F A.state here.within.at.placed (taken_of A.state.aliases a)
+          (moves_of (label_of_step a) (channel_of A.state.aliases a) A.state.next here.within.at.placed))
       of_steps A a F here small =
-          judge-step A here.free a F ∙ rw small (ap someOf (judged-by F here.within.at.placed A.state a here.within.at.threads))
+          judge_step A here.free a F ∙ rw small (ap some_of (judged_by F here.within.at.placed A.state a here.within.at.threads))
 
-pub ruleset steppings = (stepped-large, stepped-all)
+pub ruleset steppings = (stepped_large, stepped_all)
 
 -- The messages of a head are within their slices.
 module _ {r : Headed} {h : head.Head} {n : ℕ} (short : Short r) (e : r ≡ By h) (long : n ≡ 510) where
-  pub channel-within : h.channel ≤ n
-  channel-within = let (low, high) = short.there h e in omega arith
+  pub channel_within : h.channel ≤ n
+  channel_within = let (low, high) = short.there h e in omega arith
 
-  pub taken-within : h.taken ≤ n
-  taken-within = let (low, high) = short.there h e in omega arith
+  pub taken_within : h.taken ≤ n
+  taken_within = let (low, high) = short.there h e in omega arith
 
-pub ruleset shortness = (channel-within, taken-within)
+pub ruleset shortness = (channel_within, taken_within)

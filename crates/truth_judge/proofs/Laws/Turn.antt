@@ -8,27 +8,27 @@ use lib.ListN.{length, length-append}
 use Rattle.meaning.specs.Messages.Term.{Message, leaf, public, nodes}
 use Rattle.meaning.specs.Messages.Normal.{normal}
 use Rattle.meaning.specs.Bytes.Formula.{Label, Formula}
-use Rattle.meaning.specs.Bytes.Nesting.{stepDepth}
-use Rattle.meaning.specs.Bytes.Scope.{bindsLabel}
+use Rattle.meaning.specs.Bytes.Nesting.{step_depth}
+use Rattle.meaning.specs.Bytes.Scope.{binds_label}
 use Rattle.meaning.specs.Places.{none}
 use Rattle.meaning.specs.Steps.State.{Bound, State, worked}
 use Rattle.meaning.specs.Steps.Invariant.{Stored, BoundStored}
 use Rattle.meaning.specs.Judging.{judge}
 use Rattle.meaning.specs.Judging.Visits.{Arrival}
-use Rattle.meaning.proofs.Messages.{normalForms}
+use Rattle.meaning.proofs.Messages.{normal_forms}
 use Rattle.meaning.proofs.Test.{neither}
-use Rattle.meaning.proofs.Steps.Invariant.Settling.{worked-below}
+use Rattle.meaning.proofs.Steps.Invariant.Settling.{worked_below}
 use Rattle.buffer.specs.Buffer.{Within}
-use Rattle.message_bytes.proofs.Theorems.{runLength}
-use Rattle.buffer.proofs.Laws.Buffer.{one-after}
-use Rattle.message_term.proofs.Theorems.{boundLength}
+use Rattle.message_bytes.proofs.Theorems.{run_length}
+use Rattle.buffer.proofs.Laws.Buffer.{one_after}
+use Rattle.message_term.proofs.Theorems.{bound_length}
 use Rattle.state_record.specs.declared.state.State as code
-use Rattle.state_layout.specs.Layout.{StateAt, overArrival}
+use Rattle.state_layout.specs.Layout.{StateAt, over_arrival}
 use Rattle.state_layout.specs.Loaded.{IsRunOf}
 use Rattle.state_start.specs.declared.form.Formed.{Formed}
 use Rattle.step_located.proofs.Laws.Everywhere.{every_first}
 use Rattle.step_transition.specs.Moves.{Move}
-use Rattle.step_transition.specs.Outcome.{Outcome, outcome, arrivalOf}
+use Rattle.step_transition.specs.Outcome.{Outcome, outcome, arrival_of}
 use Rattle.step_transition.specs.Limits.{Goes}
 use Rattle.step_transition.specs.WithinLimits.{WithinLimits}
 use Rattle.step_transition.specs.Step.{step_of}
@@ -37,53 +37,53 @@ use Rattle.step_transition.specs.Moving.{Leading}
 use Rattle.step_label.specs.declared.step.Step as step
 use Rattle.step_label.specs.declared.step.Label as step_label
 use Rattle.step_label.specs.declared.step.Label.TheVariants.{Input}
-use Rattle.step_transition.proofs.Laws.Limits.{judgedOn}
-use Rattle.step_transition.proofs.Laws.Start.{within-limits, stepWithinLimits}
+use Rattle.step_transition.proofs.Laws.Limits.{judged_on}
+use Rattle.step_transition.proofs.Laws.Start.{within_limits, step_within_limits}
 use Rattle.successor_threadless.specs.Threadless.{StandsFor, itself, threadless}
 use Rattle.successor_state.specs.Lead.{FormsFor}
-use Rattle.successor_rebuild.proofs.Laws.Formed.{every-move}
+use Rattle.successor_rebuild.proofs.Laws.Formed.{every_move}
 use Rattle.truth_label.specs.Place.{FormulaAt}
-use Rattle.truth_label.specs.Head.{stepLabel, channelOf, taken_of}
+use Rattle.truth_label.specs.Head.{label_of_step, channel_of, taken_of}
 use Rattle.step_between.specs.Buffered.{Resuming}
 use Rattle.successor_next.specs.Arrive.{Taken, ArrivedAt, Arrives}
 use Rattle.successor_next.specs.declared.arrive.Arrived.{Arrived}
 use Rattle.successor_next.specs.declared.arrive.Arrived.TheVariants.{By, None}
 use Rattle.successor_next.proofs.Laws.Sending.{added}
 use Rattle.successor_next.proofs.Laws.Arrive.{listed, sending}
-use Rattle.truth_body.specs.Judged.{judgedOf}
+use Rattle.truth_body.specs.Judged.{judged_of}
 use Rattle.truth_body.specs.Memo.{memoised}
-use Rattle.truth_judge.specs.Steps.{Asked, movesAt, judgementsAt, memoHoldsAt, toCome, TurnTo, turn_of, JudgesBody, Counts, Turns}
+use Rattle.truth_judge.specs.Steps.{Asked, moves_at, judgements_at, memo_holds_at, to_come, TurnTo, turn_of, JudgesBody, Counts, Turns}
 use Rattle.truth_body.specs.declared.judged.Judged.{Judged}
 use Rattle.truth_body.specs.declared.judged.Judged.TheVariants.{Done, Spent}
 use Rattle.truth_body.specs.declared.judged.Sum.{Sum}
 use Rattle.truth_body.specs.declared.memo.Memo.{Memo}
 use Rattle.truth_judge.specs.declared.turn.Turn.{Turn}
 use Rattle.truth_judge.specs.declared.turn.Turn.TheVariants.{End}
-use Rattle.truth_judge.proofs.Laws.Parts.{none-to-come, spent-to-come, more-to-come}
+use Rattle.truth_judge.proofs.Laws.Parts.{none_to_come, spent_to_come, more_to_come}
 use Rattle.truth_body.proofs.Laws.Memo.{memoises}
-use Rattle.truth_body.proofs.Laws.Stepless.{stepless-judge}
-use Rattle.truth_body.proofs.Laws.Reached.{reached, kept-below, room-kept}
+use Rattle.truth_body.proofs.Laws.Stepless.{stepless_judge}
+use Rattle.truth_body.proofs.Laws.Reached.{reached, kept_below, room_kept}
 
 -- A label adds an alias where its step does.
-added-by : (a : Label) → added (stepLabel a) ≡ bindsLabel a
-added-by (Label.output C) = refl
-added-by (Label.input C M) = refl
-added-by Label.silent = refl
+added_by : (a : Label) → added (label_of_step a) ≡ binds_label a
+added_by (Label.output C) = refl
+added_by (Label.input C M) = refl
+added_by Label.silent = refl
 
 -- The message of an input is a stored one, and so is public name 0.
-name-stored : (n : ℕ) → Stored n (leaf (public 0))
+name_stored : (n : ℕ) → Stored n (leaf (public 0))
 unfolding normal
-name-stored n = ((normalForms (leaf (public 0))).0, tt)
+name_stored n = ((normal_forms (leaf (public 0))).0, tt)
 
-taken-stored : (a : Label) {n : ℕ} {ρ : Bound} → BoundStored n ρ → Stored n (taken_of ρ a)
-taken-stored (Label.output C) {n} b = name-stored n
-taken-stored (Label.input C M) b = every_first (worked-below b M none)
-taken-stored Label.silent {n} b = name-stored n
+taken_stored : (a : Label) {n : ℕ} {ρ : Bound} → BoundStored n ρ → Stored n (taken_of ρ a)
+taken_stored (Label.output C) {n} b = name_stored n
+taken_stored (Label.input C M) b = every_first (worked_below b M none)
+taken_stored Label.silent {n} b = name_stored n
 
-taken-small : (a : Label) {taken : List ℕ} (ρ : Bound) → (stepLabel a ≡ Input → IsRunOf taken (taken_of ρ a)) → nodes (taken_of ρ a) ≤ 255
-taken-small (Label.output C) ρ f = omega arith
-taken-small (Label.input C M) ρ f = let l = f refl in omega (arith, l.small, ap length l.same, runLength (worked ρ M))
-taken-small Label.silent ρ f = omega arith
+taken_small : (a : Label) {taken : List ℕ} (ρ : Bound) → (label_of_step a ≡ Input → IsRunOf taken (taken_of ρ a)) → nodes (taken_of ρ a) ≤ 255
+taken_small (Label.output C) ρ f = omega arith
+taken_small (Label.input C M) ρ f = let l = f refl in omega (arith, l.small, ap length l.same, run_length (worked ρ M))
+taken_small Label.silent ρ f = omega arith
 
 -- What is asked of the search for steps.
 module _ {s f : List ℕ} {body depth : ℕ} {st : code.State} {l : step_label.Label} {channel taken m out : List ℕ}
@@ -95,13 +95,13 @@ module _ {s f : List ℕ} {body depth : ℕ} {st : code.State} {l : step_label.L
   takes = taken_of here.aliases q.label
 
   abbrev led : Move → Arrival
-  led w = arrivalOf here (outcome q.here.within.at.placed here.next takes w)
+  led w = arrival_of here (outcome q.here.within.at.placed here.next takes w)
 
   small : nodes takes ≤ 255
-  small = taken-small q.label here.aliases (λ e. q.taking (q.same ∙ e))
+  small = taken_small q.label here.aliases (λ e. q.taking (q.same ∙ e))
 
   taking : Taken here taken l takes
-  taking = record { labelled = q.taking; stored = taken-stored q.label q.here.within.stored; small = small }
+  taking = record { labelled = q.taking; stored = taken_stored q.label q.here.within.stored; small = small }
 
   leading : Leading s st here m out
   leading =
@@ -116,7 +116,7 @@ module _ {s f : List ℕ} {body depth : ℕ} {st : code.State} {l : step_label.L
               q.here.few,
               q.room.long,
               h.at.aliases.stands.size,
-              boundLength here.aliases,
+              bound_length here.aliases,
               h.at.nodes,
               h.light,
             );
@@ -125,53 +125,53 @@ module _ {s f : List ℕ} {body depth : ℕ} {st : code.State} {l : step_label.L
 
 -- A state that will do for the one that a move leads to.
 module _ {s out out₁ : List ℕ} {st : code.State} {S : State} (h : WithinLimits s out st S) {o : Outcome} (goes : Goes S o)
-    (holds : overArrival (arrivalOf S o) ≡ false → (st' : code.State) → StateAt s out₁ st' (arrivalOf S o).state → WithinLimits s out₁ st' (arrivalOf S o).state) where
+    (holds : over_arrival (arrival_of S o) ≡ false → (st' : code.State) → StateAt s out₁ st' (arrival_of S o).state → WithinLimits s out₁ st' (arrival_of S o).state) where
   record Serves (F : Formula) (B : Arrival) : Type 0 where
     aliases : B.state.aliases ≡ S.aliases ++ o.alias
-    holding : overArrival B ≡ false → (st' : code.State) → StateAt s out₁ st' B.state → WithinLimits s out₁ st' B.state
-    judged : judge F B ≡ judge F (arrivalOf S o)
+    holding : over_arrival B ≡ false → (st' : code.State) → StateAt s out₁ st' B.state → WithinLimits s out₁ st' B.state
+    judged : judge F B ≡ judge F (arrival_of S o)
 
-  serves : (F : Formula) (stepless : Bool) (B : Arrival) → (stepless ≡ true → stepDepth F ≡ 0) → StandsFor stepless (arrivalOf S o) B → Serves F B
+  serves : (F : Formula) (stepless : Bool) (B : Arrival) → (stepless ≡ true → step_depth F ≡ 0) → StandsFor stepless (arrival_of S o) B → Serves F B
   serves F stepless B z itself = record { aliases = refl; holding = holds; judged = refl }
   serves F stepless B z (threadless free) = record {
     aliases = refl;
-    holding = λ e st' a. within-limits a (neither o.large _ e).1 none none (goes.aliases h.stored) (goes.small h.small);
-    judged = sym (stepless-judge F (arrivalOf S o) (z refl) free);
+    holding = λ e st' a. within_limits a (neither o.large _ e).1 none none (goes.aliases h.stored) (goes.small h.small);
+    judged = sym (stepless_judge F (arrival_of S o) (z refl) free);
   }
 
 -- The body judged at the state that a move leads to.
 module _ {s f channel taken m m₁ out out₁ after : List ℕ} {body depth : ℕ} {st : code.State} {l : step_label.Label} {left high : ℕ} {g : Formed} {j : Judged}
     {stepless : Bool} (wm : Within 0 high m m₁) (wo : Within st.end (length out) out out₁)
     {memo : Memo} (judges : JudgesBody memo s f body depth g m₁ out₁ left j after) (q : Asked s f body depth st l channel taken m out)
-    (plain : stepless ≡ true → stepDepth q.formula ≡ 0) (sound : memoHoldsAt q memo) where
-  visited : (earlier others : List Move) (w : Move) → movesAt q ≡ earlier ++ (w ∷ others) → FormsFor stepless s st.end (led q w) g out₁
-      → (j ≡ judgedOf left (judge q.formula (led q w))) × Within st.end (length out) out after
-      × ((t l : Bool) (n : ℕ) → j ≡ Done t l n → memoHoldsAt q (memoised memo g t l (left - n)))
+    (plain : stepless ≡ true → step_depth q.formula ≡ 0) (sound : memo_holds_at q memo) where
+  visited : (earlier others : List Move) (w : Move) → moves_at q ≡ earlier ++ (w ∷ others) → FormsFor stepless s st.end (led q w) g out₁
+      → (j ≡ judged_of left (judge q.formula (led q w))) × Within st.end (length out) out after
+      × ((t l : Bool) (n : ℕ) → j ≡ Done t l n → memo_holds_at q (memoised memo g t l (left - n)))
   visited earlier others w e (B, stands-for, forms) =
       let h = q.here.within in
       let o = outcome h.at.placed (here q).next (takes q) w in
-      let channelled = channelOf (here q).aliases q.label in
+      let channelled = channel_of (here q).aliases q.label in
       let sends = sending h l channelled (takes q) earlier others w e in
-      let holds = every-move (here q).next h.at.placed (stepWithinLimits s out st (here q) (takes q) h (taking q).stored (small q)) l channelled
+      let holds = every_move (here q).next h.at.placed (step_within_limits s out st (here q) (takes q) h (taking q).stored (small q)) l channelled
       earlier others w e in
-      let goes = every-move (here q).next h.at.placed (judgedOn h.at.placed (here q) (takes q) h.judged (taking q).stored (small q)) l
+      let goes = every_move (here q).next h.at.placed (judged_on h.at.placed (here q) (takes q) h.judged (taking q).stored (small q)) l
       channelled earlier others w e in
       let served = serves h goes (λ free st' at. holds free out₁ st' at) q.formula stepless B plain stands-for in
-      let alias : length o.alias ≡ bindsLabel q.label = sends.alias h.at.placed (here q).next ∙ rw q.same (added-by q.label) in
-      let many : bindsLabel q.label + length (here q).aliases ≡ length B.state.aliases =
+      let alias : length o.alias ≡ binds_label q.label = sends.alias h.at.placed (here q).next ∙ rw q.same (added_by q.label) in
+      let many : binds_label q.label + length (here q).aliases ≡ length B.state.aliases =
       omega (arith, length-append (here q).aliases o.alias, ap length served.aliases) in
       let (there, above) = reached forms served.holding q.steps q.here.early (omega (arith, q.here.few, bound q.label)) in
       let stands : FormulaAt f body depth q.steps (length B.state.aliases) q.formula q.next =
       subst (λ (n : ℕ). FormulaAt f body depth q.steps n q.formula q.next) many q.stands in
-      let (answer, kept) = judges.exact q.formula B stands there (room-kept wm.long wo.long q.room)
+      let (answer, kept) = judges.exact q.formula B stands there (room_kept wm.long wo.long q.room)
       (sound.led B o.alias alias served.aliases) in
-      let later = kept-below g above (omega (arith, wo.long, h.at.records.size, q.here.early, q.room.long)) kept in (
-        answer ∙ ap (judgedOf left) served.judged,
-        one-after wo later (omega arith) (omega arith) (omega arith) (omega (arith, wo.long)),
+      let later = kept_below g above (omega (arith, wo.long, h.at.records.size, q.here.early, q.room.long)) kept in (
+        answer ∙ ap (judged_of left) served.judged,
+        one_after wo later (omega arith) (omega arith) (omega arith) (omega (arith, wo.long)),
         λ t l n done. memoises q.formula q.label (here q).aliases left B o.alias alias served.aliases (sym done ∙ answer) s out₁ q.steps memo g there sound,
       )
     where
-      bound : (a : Label) → bindsLabel a ≤ 1
+      bound : (a : Label) → binds_label a ≤ 1
       bound (Label.output C) = omega arith
       bound (Label.input C M) = omega arith
       bound Label.silent = omega arith
@@ -180,22 +180,22 @@ module _ {s f channel taken m m₁ out out₁ after : List ℕ} {body depth : �
 module _ {stepless : Bool} {s channel taken m out out₁ buffered message on said : List ℕ} {st : code.State} {from : step.Step} {r : Arrived}
     (arrives : Arrives stepless s channel taken st from m out buffered message r out₁ on said) (wo : Within st.end (length out) out out₁) where
   found : {f : List ℕ} {body depth : ℕ} (q : Asked s f body depth st from.label channel taken m out) {others : List Move}
-      → 510 ≤ length buffered → 510 ≤ length message → Resuming from.label st.start (movesAt q) buffered message from others
+      → 510 ≤ length buffered → 510 ≤ length message → Resuming from.label st.start (moves_at q) buffered message from others
       → ArrivedAt stepless s st (here q) q.here.within.at.placed (takes q) r out₁ on said others
   found q wide long b =
-      arrives.exact (here q) (channelOf (here q).aliases q.label) (takes q) q.here.within q.channelled (taking q) (leading q) wide long b
+      arrives.exact (here q) (channel_of (here q).aliases q.label) (takes q) q.here.within q.channelled (taking q) (leading q) wide long b
 
-  pub turn-none : (memo : Memo) (f : List ℕ) (body depth : ℕ) (sum : Sum) → r ≡ None
+  pub turn_none : (memo : Memo) (f : List ℕ) (body depth : ℕ) (sum : Sum) → r ≡ None
       → Turns stepless memo s f body depth st from channel taken m out buffered message sum (End (Done sum.truth sum.limited sum.left))
       out₁ on said
-  turn-none memo f body depth sum e = record { exact = λ q z sound {others} wide long b. (of q others (found q wide long b), wo) }
+  turn_none memo f body depth sum e = record { exact = λ q z sound {others} wide long b. (of q others (found q wide long b), wo) }
     where
       of : (q : Asked s f body depth st from.label channel taken m out) (others : List Move)
           → ArrivedAt stepless s st (here q) q.here.within.at.placed (takes q) r out₁ on said others
-          → TurnTo from.label st.start (movesAt q) (judgementsAt q) (memoHoldsAt q) (toCome sum (judgementsAt q others)) on said
+          → TurnTo from.label st.start (moves_at q) (judgements_at q) (memo_holds_at q) (to_come sum (judgements_at q others)) on said
           (End (Done sum.truth sum.limited sum.left))
       of q [] a = record {
-        ends = λ j d. let same : j ≡ Done sum.truth sum.limited sum.left = cc in same ∙ none-to-come sum;
+        ends = λ j d. let same : j ≡ Done sum.truth sum.limited sum.left = cc in same ∙ none_to_come sum;
         goes = λ v more k d. absurd (let z : ◌≡◌ {A = ℕ} 0 1 = cc in omega arith);
       }
       of q (w ∷ others) (g, a, forms, kept) = absurd (let z : ◌≡◌ {A = ℕ} 0 1 = cc in omega arith)
@@ -209,24 +209,24 @@ module _ {stepless : Bool} {s channel taken m out out₁ buffered message on sai
       same : others ≡ move ∷ behind
       is : v ≡ step_of st.start move
       label : v.label ≡ from.label
-      after-it : Resuming from.label st.start (movesAt q) on said v behind
-      answer : j ≡ judgedOf left (judge q.formula (led q move))
+      after_it : Resuming from.label st.start (moves_at q) on said v behind
+      answer : j ≡ judged_of left (judge q.formula (led q move))
       kept : Within st.end (length out) out after
-      memoising : (t l : Bool) (n : ℕ) → j ≡ Done t l n → memoHoldsAt q (memoised memo g t l (left - n))
+      memoising : (t l : Bool) (n : ℕ) → j ≡ Done t l n → memo_holds_at q (memoised memo g t l (left - n))
 
-    made : (q : Asked s f body depth st from.label channel taken m out) → (stepless ≡ true → stepDepth q.formula ≡ 0)
-        → memoHoldsAt q memo → {others : List Move}
-        → 510 ≤ length buffered → 510 ≤ length message → Resuming from.label st.start (movesAt q) buffered message from others → Made q others
+    made : (q : Asked s f body depth st from.label channel taken m out) → (stepless ≡ true → step_depth q.formula ≡ 0)
+        → memo_holds_at q memo → {others : List Move}
+        → 510 ≤ length buffered → 510 ≤ length message → Resuming from.label st.start (moves_at q) buffered message from others → Made q others
     made q z sound {others} wide long b = of others b.behind (found q wide long b)
       where
-        of : (others : List Move) → Behind from.label st.start (movesAt q) from others
+        of : (others : List Move) → Behind from.label st.start (moves_at q) from others
             → ArrivedAt stepless s st (here q) q.here.within.at.placed (takes q) r out₁ on said others → Made q others
         of [] b a = absurd (let z : ◌≡◌ {A = ℕ} 0 1 = cc in omega arith)
         of (w ∷ others) b (g', a, forms, sent) =
             let is : v ≡ step_of st.start w = cc in
             let state : g' ≡ g = cc in
             let (earlier, there) = listed b in
-            let sends = sending q.here.within from.label (channelOf (here q).aliases q.label) (takes q) earlier others w there in
+            let sends = sending q.here.within from.label (channel_of (here q).aliases q.label) (takes q) earlier others w there in
             let (answer, kept, memoising) = visited wm wo judges q z sound earlier others w there (rw state at forms) in
             record {
               move = w;
@@ -234,8 +234,8 @@ module _ {stepless : Bool} {s channel taken m out out₁ buffered message on sai
               same = refl;
               is = is;
               label = ap (λ u. u.label) is ∙ sends.label;
-              after-it =
-                  subst (λ (u : step.Step). Resuming from.label st.start (movesAt q) on said u others) (sym is)
+              after_it =
+                  subst (λ (u : step.Step). Resuming from.label st.start (moves_at q) on said u others) (sym is)
                   (record { behind = later earlier w there; keeping = sent });
               answer = answer;
               kept = kept;
@@ -249,9 +249,9 @@ module _ {stepless : Bool} {s channel taken m out out₁ buffered message on sai
     spent judges = record {
       exact = λ q z sound wide long b.
           let w = made e wm judges q z sound wide long b in
-          let total = spent-to-come sum _ (judgementsAt q w.behind) w.answer refl in (
+          let total = spent_to_come sum _ (judgements_at q w.behind) w.answer refl in (
             record {
-              ends = λ k x. let same : k ≡ Spent = cc in same ∙ total ∙ ap (λ ws. toCome sum (judgementsAt q ws)) (sym w.same);
+              ends = λ k x. let same : k ≡ Spent = cc in same ∙ total ∙ ap (λ ws. to_come sum (judgements_at q ws)) (sym w.same);
               goes = λ u more k x. absurd (let z : ◌≡◌ {A = ℕ} 0 1 = cc in omega arith);
             },
             w.kept,
@@ -263,7 +263,7 @@ module _ {stepless : Bool} {s channel taken m out out₁ buffered message on sai
     goes_on {n} {t} {l} judges = record {
       exact = λ q z sound wide long c.
           let w = made e wm judges q z sound wide long c in
-          let more = more-to-come sum _ (judgementsAt q w.behind) w.answer refl refl refl in
+          let more = more_to_come sum _ (judgements_at q w.behind) w.answer refl refl refl in
           let now : Sum = record { truth = sum.truth || t; limited = sum.limited || l; left = n } in (
             record {
               ends = λ k x. absurd (let z : ◌≡◌ {A = ℕ} 0 1 = cc in omega arith);
@@ -275,11 +275,11 @@ module _ {stepless : Bool} {s channel taken m out out₁ buffered message on sai
                     label = rw found_it at w.label;
                     others = w.behind;
                     resuming =
-                        subst (λ (u : step.Step). Resuming from.label st.start (movesAt q) on said u w.behind) found_it w.after-it;
+                        subst (λ (u : step.Step). Resuming from.label st.start (moves_at q) on said u w.behind) found_it w.after_it;
                     same =
-                        ap (λ y. toCome y (judgementsAt q w.behind)) (sym sums) ∙ more
-                        ∙ ap (λ ws. toCome sum (judgementsAt q ws)) (sym w.same);
-                    holding = subst (memoHoldsAt q) same-memo (w.memoising t l n refl);
+                        ap (λ y. to_come y (judgements_at q w.behind)) (sym sums) ∙ more
+                        ∙ ap (λ ws. to_come sum (judgements_at q ws)) (sym w.same);
+                    holding = subst (memo_holds_at q) same-memo (w.memoising t l n refl);
                   };
             },
             w.kept,

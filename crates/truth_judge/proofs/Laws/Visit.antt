@@ -12,218 +12,218 @@ use Rattle.meaning.specs.Judging.{judge}
 use Rattle.meaning.specs.Judging.Limits.{over}
 use Rattle.meaning.specs.Judging.Visits.{Arrival}
 use Rattle.buffer.specs.Buffer.{Within}
-use Rattle.buffer.proofs.Laws.Buffer.{one-after, wider}
+use Rattle.buffer.proofs.Laws.Buffer.{one_after, wider}
 use Rattle.index_formula.specs.Index.{Ends}
-use Rattle.message_binding.specs.Decide.{comparedOf, Compares}
+use Rattle.message_binding.specs.Decide.{compared_of, Compares}
 use Rattle.message_binding.specs.declared.decide.Compared.{Compared}
 use Rattle.message_binding.specs.declared.decide.Compared.TheVariants.{Terms, TooLarge}
 use Rattle.state_record.specs.declared.state.State as code
 use Rattle.state_start.specs.declared.form.Formed.{Formed}
 use Rattle.state_start.specs.declared.form.Formed.TheVariants.{At, OverLimit}
 use Rattle.truth_label.specs.Place.{FormulaAt}
-use Rattle.truth_label.proofs.Laws.Formula.{in-formula, formula-kind, shaped, shaped-step, of-equal, of-not, of_and, of-step}
+use Rattle.truth_label.proofs.Laws.Formula.{in_formula, formula_kind, shaped, shaped_step, of_equal, of_not, of_and, of_step}
 use Rattle.truth_body.specs.Reached.{JudgingRoom, Here, Reached, Unchanged}
 use Rattle.truth_judge.specs.Visit.{Judges, Visits, Equates, Negates, Conjoins, Seconds}
 use Rattle.truth_judge.specs.Steps.{Stepped}
 use Rattle.truth_body.specs.declared.judged.Judged.{Judged}
 use Rattle.truth_body.specs.declared.judged.Judged.TheVariants.{Done, Spent}
 use Rattle.truth_body.specs.declared.judged.Sum.{Sum}
-use Rattle.truth_body.proofs.Laws.Budget.{spent-as, done-as, counted}
-use Rattle.truth_judge.proofs.Laws.Parts.{not_done, not-spent, and-done, and-spent, second-done, second-spent}
-use Rattle.truth_body.proofs.Laws.Meets.{limit, compared, judge-over, judge-equal, judge-not, judge-and}
-use Rattle.truth_body.proofs.Laws.Reached.{kept_same, here-kept, room-kept, bound-here}
+use Rattle.truth_body.proofs.Laws.Budget.{spent_as, done_as, counted}
+use Rattle.truth_judge.proofs.Laws.Parts.{not_done, not_spent, and_done, and_spent, second_done, second_spent}
+use Rattle.truth_body.proofs.Laws.Meets.{limit, compared, judge_over, judge_equal, judge_not, judge_and}
+use Rattle.truth_body.proofs.Laws.Reached.{kept_same, here_kept, room_kept, bound_here}
 
 -- A visit that goes no further.
 module _ {s f m out : List ℕ} {at depth left : ℕ} (formed : Formed) where
-  pub judges-spent : left ≡ 0 → Judges s f at depth formed m out left Spent out
-  judges-spent e = record {
-    exact = λ F A stands reached room. (spent-as left (judge F A) (omega (arith, counted F A)), kept_same formed out);
+  pub judges_spent : left ≡ 0 → Judges s f at depth formed m out left Spent out
+  judges_spent e = record {
+    exact = λ F A stands reached room. (spent_as left (judge F A) (omega (arith, counted F A)), kept_same formed out);
   }
 
-  pub judges-over : formed ≡ OverLimit → (left ≡ 0 → ⊥) → Judges s f at depth formed m out left (Done false true (left - 1)) out
-  judges-over e some = record {
+  pub judges_over : formed ≡ OverLimit → (left ≡ 0 → ⊥) → Judges s f at depth formed m out left (Done false true (left - 1)) out
+  judges_over e some = record {
     exact = λ F A {steps} stands reached room.
         let over = rw e at reached in
         let positive : 0 < left = omega arith in
-        (rw (judge-over F A over) (done-as left limit (omega arith) refl refl), kept_same formed out);
+        (rw (judge_over F A over) (done_as left limit (omega arith) refl refl), kept_same formed out);
   }
 
-  pub judges-at : {st : code.State} {r : Judged} {after : List ℕ} → formed ≡ At st → (left ≡ 0 → ⊥)
+  pub judges_at : {st : code.State} {r : Judged} {after : List ℕ} → formed ≡ At st → (left ≡ 0 → ⊥)
       → Visits s f at depth st m out (left - 1) r after → Judges s f at depth formed m out left r after
-  judges-at {st} {r} {after} e some visits = record {
+  judges_at {st} {r} {after} e some visits = record {
     exact = λ F A {steps} stands reached room.
         let comes = visits.exact F A stands (subst (λ (g : Formed). Reached s out g A steps) e reached) room in
         let one : left - 1 + 1 ≡ left = omega arith in
         (rw one at comes.answer, subst (λ (g : Formed). Unchanged g out after) (sym e) comes.kept);
   }
 
-pub ruleset judgings = (judges-spent, judges-over, judges-at)
+pub ruleset judgings = (judges_spent, judges_over, judges_at)
 
 -- Where no formula stands, or the state is none of those that are reached.
 module _ {s f m out : List ℕ} {at depth left : ℕ} {st : code.State} where
-  no-visit : {r : Judged} {after : List ℕ}
+  no_visit : {r : Judged} {after : List ℕ}
       → ((F : Formula) (A : Arrival) (steps next : ℕ) → FormulaAt f at depth steps (length A.state.aliases) F next → Here s out st A steps → JudgingRoom s m out → ⊥)
       → Visits s f at depth st m out left r after
-  no-visit h = record { exact = λ F A {steps} {next} stands here room. absurd (h F A steps next stands here room) }
+  no_visit h = record { exact = λ F A {steps} {next} stands here room. absurd (h F A steps next stands here room) }
 
-  pub no-depth : depth ≡ 0 → Visits s f at depth st m out left Spent out
-  no-depth e = no-visit (λ F A steps next stands here room. omega (arith, (formula-kind F stands).2))
+  pub no_depth : depth ≡ 0 → Visits s f at depth st m out left Spent out
+  no_depth e = no_visit (λ F A steps next stands here room. omega (arith, (formula_kind F stands).2))
 
-  pub no-formula : length f ≤ at → Visits s f at depth st m out left Spent out
-  no-formula e = no-visit (λ F A steps next stands here room. omega (arith, (formula-kind F stands).1))
+  pub no_formula : length f ≤ at → Visits s f at depth st m out left Spent out
+  no_formula e = no_visit (λ F A steps next stands here room. omega (arith, (formula_kind F stands).1))
 
-  pub long-model : 36864 < length s → Visits s f at depth st m out left Spent out
-  long-model e = no-visit (λ F A steps next stands here room. omega (arith, room.short))
+  pub long_model : 36864 < length s → Visits s f at depth st m out left Spent out
+  long_model e = no_visit (λ F A steps next stands here room. omega (arith, room.short))
 
   pub no_bytes : length out < 65536 → Visits s f at depth st m out left Spent out
-  no_bytes e = no-visit (λ F A steps next stands here room. omega (arith, room.long))
+  no_bytes e = no_visit (λ F A steps next stands here room. omega (arith, room.long))
 
-  pub too-late : 50592 < st.end → Visits s f at depth st m out left Spent out
-  too-late e = no-visit (λ F A steps next stands here room. omega (arith, here.early))
+  pub too_late : 50592 < st.end → Visits s f at depth st m out left Spent out
+  too_late e = no_visit (λ F A steps next stands here room. omega (arith, here.early))
 
-  pub no-aliases : st.end < st.aliases → Visits s f at depth st m out left Spent out
-  no-aliases e =
-      no-visit (λ F A steps next stands here room. omega (arith, here.within.at.aliases.stands.size, here.within.at.records.size))
+  pub no_aliases : st.end < st.aliases → Visits s f at depth st m out left Spent out
+  no_aliases e =
+      no_visit (λ F A steps next stands here room. omega (arith, here.within.at.aliases.stands.size, here.within.at.records.size))
 
-  pub visits-node : {r : Judged} {after : List ℕ} → (depth ≡ 0 → ⊥) → Visits s f at (depth - 1 + 1) st m out left r after
+  pub visits_node : {r : Judged} {after : List ℕ} → (depth ≡ 0 → ⊥) → Visits s f at (depth - 1 + 1) st m out left r after
       → Visits s f at depth st m out left r after
-  visits-node some v = let same : depth - 1 + 1 ≡ depth = omega arith in rw same at v
+  visits_node some v = let same : depth - 1 + 1 ≡ depth = omega arith in rw same at v
 
-pub ruleset visitings = (no-depth, no-formula, long-model, no_bytes, too-late, no-aliases, visits-node)
+pub ruleset visitings = (no_depth, no_formula, long_model, no_bytes, too_late, no_aliases, visits_node)
 
 -- The formula by its kind.
 one_less : (n : ℕ) → n + 1 - 1 ≡ n
 one_less n = omega arith
 
 module _ {s f m out after : List ℕ} {at left k : ℕ} {st : code.State} {r : Judged} (depth : ℕ) (byte : k ≡ get_or f at 0) where
-  pub node-equal : k ≡ 0 → Equates f (at + 1) st out left r after → Visits s f at (depth + 1) st m out left r after
-  node-equal e h = record {
+  pub node_equal : k ≡ 0 → Equates f (at + 1) st out left r after → Visits s f at (depth + 1) st m out left r after
+  node_equal e h = record {
     exact = λ F A {steps} {next} stands here room.
         let (M, N, same) = shaped 0 F stands (sym byte ∙ e) in
-        let (mid, first, second) = of-equal M N (rw same at stands) in
+        let (mid, first, second) = of_equal M N (rw same at stands) in
         rw same (h.exact s m M N A first second here room);
   }
 
-  pub node-not : k ≡ 1 → Negates s f (at + 1) depth st m out left r after → Visits s f at (depth + 1) st m out left r after
-  node-not e h = record {
+  pub node_not : k ≡ 1 → Negates s f (at + 1) depth st m out left r after → Visits s f at (depth + 1) st m out left r after
+  node_not e h = record {
     exact = λ F A {steps} {next} stands here room.
         let (G, same) = shaped 1 F stands (sym byte ∙ e) in
-        let inner = rw (one_less depth) at (of-not G (rw same at stands)) in
-        rw (same, judge-not A here.free G) (h.exact G A inner here room);
+        let inner = rw (one_less depth) at (of_not G (rw same at stands)) in
+        rw (same, judge_not A here.free G) (h.exact G A inner here room);
   }
 
-  pub node-and : k ≡ 2 → Conjoins s f (at + 1) depth st m out left r after → Visits s f at (depth + 1) st m out left r after
-  node-and e h = record {
+  pub node_and : k ≡ 2 → Conjoins s f (at + 1) depth st m out left r after → Visits s f at (depth + 1) st m out left r after
+  node_and e h = record {
     exact = λ F A {steps} {next} stands here room.
         let (G, H, same) = shaped 2 F stands (sym byte ∙ e) in
         let (mid, first, second) = of_and G H (rw same at stands) in
-        rw (same, judge-and A here.free G H) (h.exact G H A (rw (one_less depth) at first) (rw (one_less depth) at second) here room);
+        rw (same, judge_and A here.free G H) (h.exact G H A (rw (one_less depth) at first) (rw (one_less depth) at second) here room);
   }
 
-  pub node-step : (k ≡ 0 → ⊥) → (k ≡ 1 → ⊥) → (k ≡ 2 → ⊥) → Stepped s f k (at + 1) depth st m out left r after
+  pub node_step : (k ≡ 0 → ⊥) → (k ≡ 1 → ⊥) → (k ≡ 2 → ⊥) → Stepped s f k (at + 1) depth st m out left r after
       → Visits s f at (depth + 1) st m out left r after
-  node-step a b c h = record {
+  node_step a b c h = record {
     exact = λ F A {steps} {next} stands here room.
         let large : 3 ≤ get_or f at 0 = omega arith in
-        let (l, G, same, kind) = shaped-step F stands large in
-        let (body, label, inner, some) = of-step l G (rw same at stands) in
+        let (l, G, same, kind) = shaped_step F stands large in
+        let (body, label, inner, some) = of_step l G (rw same at stands) in
         let back : steps - 1 + 1 ≡ steps = omega arith in
         rw same (h.exact l G A (byte ∙ kind) label (rw (one_less depth) at inner) (rw back here) room);
   }
 
-pub ruleset kinds = (node-equal, node-not, node-and, node-step)
+pub ruleset kinds = (node_equal, node_not, node_and, node_step)
 
 -- Two recipes.
-said-large : (b : Bool) (n : ℕ) (t : Bool) {c : Compared} → c ≡ comparedOf b n t → c ≡ TooLarge → b ≡ true
-unfolding comparedOf
-said-large true n t e d = refl
-said-large false n t e d = absurd (let z : ◌≡◌ {A = ℕ} 0 1 = cc in omega arith)
+said_large : (b : Bool) (n : ℕ) (t : Bool) {c : Compared} → c ≡ compared_of b n t → c ≡ TooLarge → b ≡ true
+unfolding compared_of
+said_large true n t e d = refl
+said_large false n t e d = absurd (let z : ◌≡◌ {A = ℕ} 0 1 = cc in omega arith)
 
-said-terms : (b : Bool) (n : ℕ) (t : Bool) {n' : ℕ} {t' : Bool} {c : Compared} → c ≡ comparedOf b n t → c ≡ Terms n' t' → (b ≡ false) × (t' ≡ t)
-unfolding comparedOf
-said-terms true n t e d = absurd (let z : ◌≡◌ {A = ℕ} 0 1 = cc in omega arith)
-said-terms false n t e d = (refl, cc)
+said_terms : (b : Bool) (n : ℕ) (t : Bool) {n' : ℕ} {t' : Bool} {c : Compared} → c ≡ compared_of b n t → c ≡ Terms n' t' → (b ≡ false) × (t' ≡ t)
+unfolding compared_of
+said_terms true n t e d = absurd (let z : ◌≡◌ {A = ℕ} 0 1 = cc in omega arith)
+said_terms false n t e d = (refl, cc)
 
 module _ {f out out₁ : List ℕ} {at : ℕ} {st : code.State} {c : Compared} (compares : Compares f at out st.aliases st.end c)
     (within : Within st.end (st.end + 4606) out out₁) (left : ℕ) where
   stays : {s m : List ℕ} {A : Arrival} {steps : ℕ} → Here s out st A steps → JudgingRoom s m out → Within st.end (length out) out out₁
   stays here room = wider within (omega arith) (omega (arith, here.early, room.long))
 
-  pub equates-large : c ≡ TooLarge → Equates f at st out left (Done false true left) out₁
-  equates-large e = record {
+  pub equates_large : c ≡ TooLarge → Equates f at st out left (Done false true left) out₁
+  equates_large e = record {
     exact = λ s m M N A {steps} {mid} {next} first second here room.
         let ρ = A.state.aliases in
-        let large = said-large (over ρ M || over ρ N) next (equal (written ρ M) (written ρ N)) (compares.exact M N ρ first second (bound-here here)) e in
+        let large = said_large (over ρ M || over ρ N) next (equal (written ρ M) (written ρ N)) (compares.exact M N ρ first second (bound_here here)) e in
         record {
-          answer = rw (judge-equal A here.free M N, large) (done-as (left + 1) limit (omega arith) refl refl);
+          answer = rw (judge_equal A here.free M N, large) (done_as (left + 1) limit (omega arith) refl refl);
           kept = stays here room;
         };
   }
 
-  pub equates-terms : {n : ℕ} {t : Bool} → c ≡ Terms n t → Equates f at st out left (Done t false left) out₁
-  equates-terms {n} {t} e = record {
+  pub equates_terms : {n : ℕ} {t : Bool} → c ≡ Terms n t → Equates f at st out left (Done t false left) out₁
+  equates_terms {n} {t} e = record {
     exact = λ s m M N A {steps} {mid} {next} first second here room.
         let ρ = A.state.aliases in
-        let (small, same) = said-terms (over ρ M || over ρ N) next (equal (written ρ M) (written ρ N)) (compares.exact M N ρ first second (bound-here here)) e in
+        let (small, same) = said_terms (over ρ M || over ρ N) next (equal (written ρ M) (written ρ N)) (compares.exact M N ρ first second (bound_here here)) e in
         record {
-          answer = rw (judge-equal A here.free M N, small) (done-as (left + 1) (compared A M N) (omega arith) same refl);
+          answer = rw (judge_equal A here.free M N, small) (done_as (left + 1) (compared A M N) (omega arith) same refl);
           kept = stays here room;
         };
   }
 
-pub ruleset equatings = (equates-large, equates-terms)
+pub ruleset equatings = (equates_large, equates_terms)
 
 -- A formula inside this one is visited at the same state.
 module _ {s f m out after : List ℕ} {at depth left : ℕ} {st : code.State} {r : Judged} (judges : Judges s f at depth (At st) m out left r after) where
-  pub negates-done : {n : ℕ} {t l b : Bool} → r ≡ Done t l n → b ≡ not t → Negates s f at depth st m out left (Done b l n) after
-  negates-done {n} {t} {l} e d = record {
+  pub negates_done : {n : ℕ} {t l b : Bool} → r ≡ Done t l n → b ≡ not t → Negates s f at depth st m out left (Done b l n) after
+  negates_done {n} {t} {l} e d = record {
     exact = λ F A stands here room.
         let (answer, kept) = judges.exact F A stands here room in
         record { answer = ap (λ b. Done b l n) d ∙ not_done left (judge F A) answer e; kept = kept };
   }
 
-  pub negates-spent : r ≡ Spent → Negates s f at depth st m out left Spent after
-  negates-spent e = record {
+  pub negates_spent : r ≡ Spent → Negates s f at depth st m out left Spent after
+  negates_spent e = record {
     exact = λ F A stands here room.
         let (answer, kept) = judges.exact F A stands here room in
-        record { answer = not-spent left (judge F A) answer e; kept = kept };
+        record { answer = not_spent left (judge F A) answer e; kept = kept };
   }
 
-  pub conjoins-spent : r ≡ Spent → Conjoins s f at depth st m out left Spent after
-  conjoins-spent e = record {
+  pub conjoins_spent : r ≡ Spent → Conjoins s f at depth st m out left Spent after
+  conjoins_spent e = record {
     exact = λ F G A first second here room.
         let (answer, kept) = judges.exact F A first here room in
-        record { answer = and-spent left (judge F A) answer (judge G A) e; kept = kept };
+        record { answer = and_spent left (judge F A) answer (judge G A) e; kept = kept };
   }
 
-  pub conjoins-both : {m₁ last : List ℕ} {n mid : ℕ} {t l : Bool} {v : Judged} → r ≡ Done t l n → length m₁ ≡ length m
+  pub conjoins_both : {m₁ last : List ℕ} {n mid : ℕ} {t l : Bool} {v : Judged} → r ≡ Done t l n → length m₁ ≡ length m
       → length after ≡ length out → Ends f at mid
       → Seconds s f mid depth st m₁ after (record { truth = t; limited = l; left = n }) v last → Conjoins s f at depth st m out left v last
-  conjoins-both e lm lo ends second = record {
+  conjoins_both e lm lo ends second = record {
     exact = λ F G A {steps} {mid = mid'} {next} first stands here room.
         let (answer, kept) = judges.exact F A first here room in
-        let same = ends.same F (in-formula first) in
+        let same = ends.same F (in_formula first) in
         let there = subst (λ (n : ℕ). FormulaAt f n depth steps (length A.state.aliases) G next) (sym same) stands in
-        let (both-answer, later) = second.exact G A there (here-kept kept here) (room-kept lm lo room) in
+        let (both-answer, later) = second.exact G A there (here_kept kept here) (room_kept lm lo room) in
         record {
-          answer = and-done left (judge F A) answer (judge G A) e both-answer;
-          kept = one-after kept later (omega arith) (omega arith) (omega arith) (omega arith);
+          answer = and_done left (judge F A) answer (judge G A) e both-answer;
+          kept = one_after kept later (omega arith) (omega arith) (omega arith) (omega arith);
         };
   }
 
 module _ {s f m out after : List ℕ} {at depth : ℕ} {st : code.State} {r : Judged} {sum : Sum}
     (judges : Judges s f at depth (At st) m out sum.left r after) where
-  pub seconds-done : {n : ℕ} {t l a b : Bool} → r ≡ Done t l n → a ≡ (sum.truth && t) → b ≡ (sum.limited || l)
+  pub seconds_done : {n : ℕ} {t l a b : Bool} → r ≡ Done t l n → a ≡ (sum.truth && t) → b ≡ (sum.limited || l)
       → Seconds s f at depth st m out sum (Done a b n) after
-  seconds-done e p q = record {
+  seconds_done e p q = record {
     exact = λ G A stands here room.
-        let (answer, kept) = judges.exact G A stands here room in (second-done sum (judge G A) answer e p q, kept);
+        let (answer, kept) = judges.exact G A stands here room in (second_done sum (judge G A) answer e p q, kept);
   }
 
-  pub seconds-spent : r ≡ Spent → Seconds s f at depth st m out sum Spent after
-  seconds-spent e = record {
+  pub seconds_spent : r ≡ Spent → Seconds s f at depth st m out sum Spent after
+  seconds_spent e = record {
     exact = λ G A stands here room.
-        let (answer, kept) = judges.exact G A stands here room in (second-spent sum (judge G A) answer e, kept);
+        let (answer, kept) = judges.exact G A stands here room in (second_spent sum (judge G A) answer e, kept);
   }
 
-pub ruleset sides = (negates-done, negates-spent, conjoins-spent, conjoins-both, seconds-done, seconds-spent)
+pub ruleset sides = (negates_done, negates_spent, conjoins_spent, conjoins_both, seconds_done, seconds_spent)

@@ -8,27 +8,27 @@ use lib.ListN.{length, take, drop, length-take}
 use lib.Seq.{paste}
 use Rattle.meaning.specs.Steps.State.{worked}
 use Rattle.meaning.specs.Judging.Limits.{over}
-use Rattle.message_bytes.specs.Encoding.{encodeMessage}
+use Rattle.message_bytes.specs.Encoding.{encode_message}
 use Rattle.buffer.specs.Buffer.{Within}
 use Rattle.message_term.specs.Work.{answer_of, end_of, Works, Reaches}
 use Rattle.message_term.specs.declared.work.Worked.{Worked}
 use Rattle.message_term.specs.declared.work.Worked.TheVariants.{Done, TooLarge}
 use Rattle.truth_label.specs.Recipe.{Recipes}
-use Rattle.message_bytes.proofs.Laws.Encoding.{length-encode}
-use Rattle.buffer.proofs.Laws.Buffer.{part, put-within, put-stands}
-use Rattle.message_term.proofs.Laws.Leaf.{reaches, no-reach}
-use Rattle.message_term.proofs.Laws.Work.{said-over, said-small}
+use Rattle.message_bytes.proofs.Laws.Encoding.{length_encode}
+use Rattle.buffer.proofs.Laws.Buffer.{part, put_within, put_stands}
+use Rattle.message_term.proofs.Laws.Leaf.{reaches, no_reach}
+use Rattle.message_term.proofs.Laws.Work.{said_over, said_small}
 
 -- How far the message goes.
 module _ {r : Worked} {i end : ℕ} (start : ℕ) (e : r ≡ Done i end) (h : Reaches start 8 r) where
   reached : (start ≤ end) × (end ≤ start + 510) × (1 ≤ 8)
   reached = h.there i end e
 
-  pub end-above : start ≤ end
-  end-above = reached.0
+  pub end_above : start ≤ end
+  end_above = reached.0
 
-  pub end-within : {out out₁ : List ℕ} → Within start (start + 4096) out out₁ → start + 4096 ≤ length out → end ≤ length out₁
-  end-within w l = let g = reached in omega (arith, w.long)
+  pub end_within : {out out₁ : List ℕ} → Within start (start + 4096) out out₁ → start + 4096 ≤ length out → end ≤ length out₁
+  end_within w l = let g = reached in omega (arith, w.long)
 
   pub run_short : end - start ≤ 0 + 510
   run_short = let g = reached in omega arith
@@ -36,36 +36,36 @@ module _ {r : Worked} {i end : ℕ} (start : ℕ) (e : r ≡ Done i end) (h : Re
   pub run_fits : (out m : List ℕ) → 510 ≤ length m → 0 + length (take (end - start) (drop start out)) ≤ length m
   run_fits out m l = let g = reached in omega (arith, length-take (end - start) (drop start out))
 
-  pub run-put : (out m : List ℕ) {m₁ : List ℕ}
+  pub run_put : (out m : List ℕ) {m₁ : List ℕ}
       → m₁ ≡ paste m 0 (take (end - start) (drop start out)) (length (take (end - start) (drop start out)))
       → 510 ≤ length m → length m₁ ≡ length m
-  run-put out m v l = (put-within m 0 (take (end - start) (drop start out)) v (run_fits out m l)).long
+  run_put out m v l = (put_within m 0 (take (end - start) (drop start out)) v (run_fits out m l)).long
 
 -- The answer, and the message in its new place.
 module _ {f out out₁ : List ℕ} {at base start : ℕ} {r : Worked} (w : Works f at 8 out base start r out₁) where
-  pub recipe-large : {m : List ℕ} → r ≡ TooLarge → Recipes f at base start out TooLarge m
+  pub recipe_large : {m : List ℕ} → r ≡ TooLarge → Recipes f at base start out TooLarge m
   unfolding answer_of
-  recipe-large e = record {
+  recipe_large e = record {
     exact = λ t {next} ρ p b.
-        let large = said-over (over ρ t) next (end_of ρ t start) (w.exact t ρ p b).answer e in
+        let large = said_over (over ρ t) next (end_of ρ t start) (w.exact t ρ p b).answer e in
         record { answer = rw large; run = λ small. absurd (true≢false (sym large ∙ small)) };
   }
 
-  pub recipe-done : {i end : ℕ} (m : List ℕ) {m₁ : List ℕ} → r ≡ Done i end → Reaches start 8 r
+  pub recipe_done : {i end : ℕ} (m : List ℕ) {m₁ : List ℕ} → r ≡ Done i end → Reaches start 8 r
       → m₁ ≡ paste m 0 (take (end - start) (drop start out₁)) (length (take (end - start) (drop start out₁)))
       → 510 ≤ length m → Recipes f at base start out (Done i (end - start)) m₁
   unfolding answer_of
-  recipe-done {i} {end} m e h v l = record {
+  recipe_done {i} {end} m e h v l = record {
     exact = λ t {next} ρ p b.
         let g = w.exact t ρ p b in
-        let (small, same, ends) = said-small (over ρ t) next (end_of ρ t start) g.answer e in
+        let (small, same, ends) = said_small (over ρ t) next (end_of ρ t start) g.answer e in
         let size : end - start ≡ end_of ρ t 0 = omega arith in
-        let own : take (end - start) (drop start out₁) ≡ encodeMessage (worked ρ t) = rw ends (part (g.run small)) in
-        let put = put-stands m 0 (take (end - start) (drop start out₁)) v (run_fits start e h out₁ m l) in
+        let own : take (end - start) (drop start out₁) ≡ encode_message (worked ρ t) = rw ends (part (g.run small)) in
+        let put = put_stands m 0 (take (end - start) (drop start out₁)) v (run_fits start e h out₁ m l) in
         record {
           answer = rw (small, same, size);
-          run = λ o. rw (length-encode (worked ρ t)) at (rw own at put);
+          run = λ o. rw (length_encode (worked ρ t)) at (rw own at put);
         };
   }
 
-pub ruleset recipes = (end-above, end-within, run_short, run_fits, run-put, recipe-large, recipe-done, reaches, no-reach)
+pub ruleset recipes = (end_above, end_within, run_short, run_fits, run_put, recipe_large, recipe_done, reaches, no_reach)

@@ -11,7 +11,7 @@ module _ (before now : List ℕ) (i : ℕ) (e : now ≡ replicate i 0 ++ drop i 
   pub one_more : i < length now → set now i 0 ≡ replicate (i + 1) 0 ++ drop (i + 1) before
   one_more h = rw e (fill_more i 0 before (omega arith))
 
-  pub all-cleared : i ≤ length before → length now ≤ i → now ≡ replicate (length before) 0
-  all-cleared h g = let whole : i ≡ length before = omega arith in rw (e, whole, drop-length) (append-nil _)
+  pub all_cleared : i ≤ length before → length now ≤ i → now ≡ replicate (length before) 0
+  all_cleared h g = let whole : i ≡ length before = omega arith in rw (e, whole, drop-length) (append-nil _)
 
-pub ruleset clearings = (one_more, all-cleared)
+pub ruleset clearings = (one_more, all_cleared)

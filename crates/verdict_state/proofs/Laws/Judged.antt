@@ -6,13 +6,13 @@ use Prim.Native.Nat.{ℕ, ◌+◌, ◌-◌, ◌≤◌}
 use native.Mathlib.Nat.{le_refl}
 use native.Mathlib.Omega.{arith}
 use borrow.Author.Tests.{not-true, not-false, lt-ltb, le-ltb}
-use Rattle.meaning.specs.Judging.{judgeModel}
+use Rattle.meaning.specs.Judging.{judge_model}
 use Rattle.meaning.specs.Verdict.{Answer as Numbers, answer, ranked, judged}
 use Rattle.index_formula.specs.Index.{Builds}
-use Rattle.truth_label.proofs.Laws.Formula.{formula-in}
+use Rattle.truth_label.proofs.Laws.Formula.{formula_in}
 use Rattle.truth_body.specs.Judged.{Less}
 use Rattle.verdict_state.specs.Model.{JudgesModel}
-use Rattle.truth_body.proofs.Laws.Budget.{told-done, told-spent}
+use Rattle.truth_body.proofs.Laws.Budget.{told_done, told_spent}
 use Rattle.truth_body.specs.declared.judged.Judged.{Judged}
 use Rattle.truth_body.specs.declared.judged.Judged.TheVariants.{Done, Spent}
 use Rattle.verdict_input.specs.declared.answer.Answer.{Answer}
@@ -21,8 +21,8 @@ use Rattle.verdict_state.specs.Models.{JudgesBoth, JudgesBothIndexed}
 
 -- In their order.
 module _ (limited first second : Bool) (count budget : ℕ) {x : Numbers} where
-  pub is-limited : limited ≡ true → x ≡ answer 11 count → x ≡ ranked false limited first second count budget
-  is-limited l e = rw l e
+  pub is_limited : limited ≡ true → x ≡ answer 11 count → x ≡ ranked false limited first second count budget
+  is_limited l e = rw l e
 
   module _ (l : limited ≡ false) where
     pub is_false : not first ≡ true → x ≡ answer 12 count → x ≡ ranked false limited first second count budget
@@ -32,8 +32,8 @@ module _ (limited first second : Bool) (count budget : ℕ) {x : Numbers} where
       pub is_true : second ≡ true → x ≡ answer 13 count → x ≡ ranked false limited first second count budget
       is_true s e = rw (l, not-false first f, s) e
 
-      pub is-accepted : second ≡ false → x ≡ answer 0 count → x ≡ ranked false limited first second count budget
-      is-accepted s e = rw (l, not-false first f, s) e
+      pub is_accepted : second ≡ false → x ≡ answer 0 count → x ≡ ranked false limited first second count budget
+      is_accepted s e = rw (l, not-false first f, s) e
 
 -- What is left is no more than there was.
 pub left_below : {b budget left : ℕ} {truth limited : Bool} {r : Judged} → Less b r → r ≡ Done truth limited left → b ≤ budget
@@ -42,42 +42,42 @@ left_below l f h = omega (arith, l.there _ _ _ f)
 
 -- Of both: the visits are more than the budget, in the first model or in the second, or they are not.
 module _ (s₁ s₂ f : List ℕ) (budget : ℕ) {r : Judged} {a : Answer} (e : JudgesModel s₁ f budget r) where
-  pub first-spent : r ≡ Spent → numbers a ≡ answer 10 budget → JudgesBothIndexed s₁ s₂ f budget a
+  pub first_spent : r ≡ Spent → numbers a ≡ answer 10 budget → JudgesBothIndexed s₁ s₂ f budget a
   unfolding judged
-  first-spent d g = record {
+  first_spent d g = record {
     exact = λ P Q F p q m.
-        let more = told-spent budget (judgeModel F P) (e.exact P F p m) d in
-        rw (g, lt-ltb budget ((judgeModel F P).count + (judgeModel F Q).count) (omega arith));
+        let more = told_spent budget (judge_model F P) (e.exact P F p m) d in
+        rw (g, lt-ltb budget ((judge_model F P).count + (judge_model F Q).count) (omega arith));
   }
 
   module _ {truth limited : Bool} {left : ℕ} {r' : Judged} (d : r ≡ Done truth limited left) (e' : JudgesModel s₂ f left r') where
-    pub second-spent : r' ≡ Spent → numbers a ≡ answer 10 budget → JudgesBothIndexed s₁ s₂ f budget a
+    pub second_spent : r' ≡ Spent → numbers a ≡ answer 10 budget → JudgesBothIndexed s₁ s₂ f budget a
     unfolding judged
-    second-spent d' g = record {
+    second_spent d' g = record {
       exact = λ P Q F p q m.
-          let w = told-done budget (judgeModel F P) (e.exact P F p m) d in
-          let more = told-spent left (judgeModel F Q) (e'.exact Q F q m) d' in
-          rw (g, lt-ltb budget ((judgeModel F P).count + (judgeModel F Q).count) (omega (arith, w.count, more)));
+          let w = told_done budget (judge_model F P) (e.exact P F p m) d in
+          let more = told_spent left (judge_model F Q) (e'.exact Q F q m) d' in
+          rw (g, lt-ltb budget ((judge_model F P).count + (judge_model F Q).count) (omega (arith, w.count, more)));
     }
 
-    pub both-done : {truth' limited' : Bool} {rest : ℕ} → r' ≡ Done truth' limited' rest
+    pub both_done : {truth' limited' : Bool} {rest : ℕ} → r' ≡ Done truth' limited' rest
         → numbers a ≡ ranked false (limited || limited') truth truth' (budget - rest) budget → JudgesBothIndexed s₁ s₂ f budget a
     unfolding judged
-    both-done {rest} d' g = record {
+    both_done {rest} d' g = record {
       exact = λ P Q F p q m.
-          let w = told-done budget (judgeModel F P) (e.exact P F p m) d in
-          let w' = told-done left (judgeModel F Q) (e'.exact Q F q m) d' in
-          let count : (judgeModel F P).count + (judgeModel F Q).count ≡ budget - rest = omega (arith, w.count, w'.count) in
+          let w = told_done budget (judge_model F P) (e.exact P F p m) d in
+          let w' = told_done left (judge_model F Q) (e'.exact Q F q m) d' in
+          let count : (judge_model F P).count + (judge_model F Q).count ≡ budget - rest = omega (arith, w.count, w'.count) in
           rw (g, w.truth, w.limited, w'.truth, w'.limited, count, le-ltb budget (budget - rest) (omega arith));
     }
 
 -- A formula that was put into a slice with its index is the one that is judged.
-pub judges-both : {s₁ s₂ formula f : List ℕ} {budget : ℕ} {a : Answer} → Builds formula f → JudgesBothIndexed s₁ s₂ f budget a
+pub judges_both : {s₁ s₂ formula f : List ℕ} {budget : ℕ} {a : Answer} → Builds formula f → JudgesBothIndexed s₁ s₂ f budget a
     → JudgesBoth s₁ s₂ formula budget a
-judges-both b j = record { exact = λ P Q F p q m. j.exact P Q F p q (formula-in b m) }
+judges_both b j = record { exact = λ P Q F p q m. j.exact P Q F p q (formula_in b m) }
 
-pub ruleset ranks = (is-limited, is_false, is_true, is-accepted)
+pub ruleset ranks = (is_limited, is_false, is_true, is_accepted)
 
 pub ruleset budgets = (le_refl, left_below)
 
-pub ruleset judgings = (first-spent, second-spent, both-done)
+pub ruleset judgings = (first_spent, second_spent, both_done)

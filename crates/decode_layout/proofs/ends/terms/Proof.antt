@@ -3,16 +3,16 @@ use Prim.Native.Nat.{◌+◌, ◌-◌, ◌≤◌}
 use native.Mathlib.Omega.{arith}
 use borrow.Author.Rules.{rules}
 use lib.ListN.{length}
-use Rattle.meaning.specs.Bytes.Encoding.{encodeTerm}
-use Rattle.decode_layout.specs.Layout.{parts, termLayouts}
-use Rattle.decode_layout.proofs.Laws.Table.{two-at-most, one_number}
+use Rattle.meaning.specs.Bytes.Encoding.{encode_term}
+use Rattle.decode_layout.specs.Layout.{parts, term_layouts}
+use Rattle.decode_layout.proofs.Laws.Table.{two_at_most, one_number}
 use Rattle.decode_layout.proofs.Laws.Standing.{Traversed, starts, done, too_many, stuck, step}
 use Rattle.decode_layout.proofs.Laws.Ends.{terms}
 use Rattle.decode_layout.proofs.ends.terms.Statement.{statement}
 use Rattle.decode_layout.proofs.ends.terms.Tie as tie
 
 abbrev invariant-loop : tie.invariant-loop
-invariant-loop s at count i₀ left₀ i left = Traversed encodeTerm s at count i left × (at ≤ i) × (left ≤ length s + i)
+invariant-loop s at count i₀ left₀ i left = Traversed encode_term s at count i left × (at ≤ i) × (left ≤ length s + i)
 
 abbrev decreases-loop : tie.decreases-loop
 decreases-loop s at count i₀ left₀ i left = length s - i
@@ -28,8 +28,8 @@ terms-spec = tie.close (tie.spec invariant-loop decreases-loop
     (λ c. search rules)
     (λ c κs. search (rules, one_number))
     (λ c. search rules)
-    (λ c. let two : parts c.before.term.result ≤ 2 = search (rules, two-at-most termLayouts tt) in omega arith)
+    (λ c. let two : parts c.before.term.result ≤ 2 = search (rules, two_at_most term_layouts tt) in omega arith)
     (λ c. search rules)
-    (λ c. let two : parts c.before.term.result ≤ 2 = search (rules, two-at-most termLayouts tt) in
+    (λ c. let two : parts c.before.term.result ≤ 2 = search (rules, two_at_most term_layouts tt) in
     (search (rules, step terms), omega arith, omega arith))
     (λ c. (omega arith, search (rules, done))))

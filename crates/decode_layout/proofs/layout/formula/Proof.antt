@@ -1,16 +1,16 @@
 -- `decode_layout::layout::formula` meets its contract: a row for each kind, the last one for what is left.
 use mathlib.Core.Path.{refl}
 use borrow.Author.Rules.{rules}
-use Rattle.decode_layout.specs.Layout.{formulaLayouts}
+use Rattle.decode_layout.specs.Layout.{formula_layouts}
 use Rattle.decode_layout.proofs.Laws.Table.{row_of, last_row}
 use Rattle.decode_layout.proofs.layout.formula.Statement.{statement}
 use Rattle.decode_layout.proofs.layout.formula.Tie as tie
 
 pub formula-spec : {M : Type 1} → statement M
 formula-spec = tie.close (tie.spec
-    (λ c. row_of formulaLayouts 0 c.match.keys1 refl)
-    (λ c. row_of formulaLayouts 1 c.match.keys2 refl)
-    (λ c. row_of formulaLayouts 2 c.match.keys3 refl)
-    (λ c. row_of formulaLayouts 3 c.match.keys4 refl)
-    (λ c. row_of formulaLayouts 4 c.match.keys5 refl)
-    (λ c. last_row formulaLayouts 5 c.match.rest (search rules) refl))
+    (λ c. row_of formula_layouts 0 c.match.keys1 refl)
+    (λ c. row_of formula_layouts 1 c.match.keys2 refl)
+    (λ c. row_of formula_layouts 2 c.match.keys3 refl)
+    (λ c. row_of formula_layouts 3 c.match.keys4 refl)
+    (λ c. row_of formula_layouts 4 c.match.keys5 refl)
+    (λ c. last_row formula_layouts 5 c.match.rest (search rules) refl))

@@ -1,18 +1,18 @@
 -- `decode_layout::layout::process` meets its contract: a row for each kind, the last one for what is left.
 use mathlib.Core.Path.{refl}
 use borrow.Author.Rules.{rules}
-use Rattle.decode_layout.specs.Layout.{processLayouts}
+use Rattle.decode_layout.specs.Layout.{process_layouts}
 use Rattle.decode_layout.proofs.Laws.Table.{row_of, last_row}
 use Rattle.decode_layout.proofs.layout.process.Statement.{statement}
 use Rattle.decode_layout.proofs.layout.process.Tie as tie
 
 pub process-spec : {M : Type 1} → statement M
 process-spec = tie.close (tie.spec
-    (λ c. row_of processLayouts 0 c.match.keys1 refl)
-    (λ c. row_of processLayouts 1 c.match.keys2 refl)
-    (λ c. row_of processLayouts 2 c.match.keys3 refl)
-    (λ c. row_of processLayouts 3 c.match.keys4 refl)
-    (λ c. row_of processLayouts 4 c.match.keys5 refl)
-    (λ c. row_of processLayouts 5 c.match.keys6 refl)
-    (λ c. row_of processLayouts 6 c.match.keys7 refl)
-    (λ c. last_row processLayouts 7 c.match.rest (search rules) refl))
+    (λ c. row_of process_layouts 0 c.match.keys1 refl)
+    (λ c. row_of process_layouts 1 c.match.keys2 refl)
+    (λ c. row_of process_layouts 2 c.match.keys3 refl)
+    (λ c. row_of process_layouts 3 c.match.keys4 refl)
+    (λ c. row_of process_layouts 4 c.match.keys5 refl)
+    (λ c. row_of process_layouts 5 c.match.keys6 refl)
+    (λ c. row_of process_layouts 6 c.match.keys7 refl)
+    (λ c. last_row process_layouts 7 c.match.rest (search rules) refl))

@@ -10,7 +10,7 @@ use Rattle.decode_number.specs.Answer.{extent}
 use Rattle.decode_term.proofs.Laws.Headed.{headed}
 use Rattle.decode_term.proofs.Laws.Node.{nodes}
 use Rattle.decode_slice.proofs.Laws.Scope.{aliases}
-use Rattle.decode_slice.proofs.Laws.Sorts.{formulaNode, formula-layout}
+use Rattle.decode_slice.proofs.Laws.Sorts.{formula_node, formula_layout}
 use Rattle.decode_slice.proofs.formula.read.Reads as read
 use Rattle.decode_slice.proofs.formula.read.Kinds as read-kinds
 use Rattle.decode_slice.proofs.formula.+read.Lts-read as read-lts
@@ -30,7 +30,7 @@ read_below t = and 1 read-kinds.ps (falls 1 read-kinds.ps ◌<◌ left t) read.P
 
 abbrev invariant-loop : read-lts.invariant-loop
 invariant-loop s at scope left steps i₀ inner₀ nodes₀ rest₀ i inner nodes rest =
-    (extent (formula left steps scope s at) ≡ formulaNode nodes rest inner s i) × (inner + rest ≤ 16) × (nodes ≤ left)
+    (extent (formula left steps scope s at) ≡ formula_node nodes rest inner s i) × (inner + rest ≤ 16) × (nodes ≤ left)
 
 abbrev decreases-loop : read-lts.decreases-loop
 decreases-loop s at scope left steps i₀ inner₀ nodes₀ rest₀ i inner nodes rest = nodes
@@ -39,7 +39,7 @@ pub +read-spec : {M : Type 1} → statement M
 +read-spec = close left λ t. read-lts.spec
     (head-reads.Asked, head-reads.Learnt, layout-reads.Asked, layout-reads.Learnt, read_below t, read.Post) (read_at t) read.Post
     invariant-loop decreases-loop
-    (λ c. (formula-layout _ _ _ _ _, search rules, search rules))
+    (λ c. (formula_layout _ _ _ _ _, search rules, search rules))
     (λ c κs. search rules)
     (λ c. search rules)
     (λ c κs. search (rules, headed))
@@ -48,11 +48,11 @@ pub +read-spec : {M : Type 1} → statement M
     (λ c. search (rules, headed))
     (λ c. search (rules, aliases))
     (λ c. search (rules, headed))
-    (λ c. (search (rules, nodes, aliases) ∙ formula-layout _ _ _ _ _, search (rules, aliases), search rules))
+    (λ c. (search (rules, nodes, aliases) ∙ formula_layout _ _ _ _ _, search (rules, aliases), search rules))
     (λ c κs. search (rules, headed, aliases))
     (λ c. search rules)
     (λ c. search (rules, headed))
-    (λ c. (search (rules, nodes, aliases) ∙ formula-layout _ _ _ _ _, search (rules, aliases), search rules))
+    (λ c. (search (rules, nodes, aliases) ∙ formula_layout _ _ _ _ _, search (rules, aliases), search rules))
     (λ c. search rules)
     (λ c. search (rules, nodes, aliases))
     (λ c. search rules)

@@ -12,7 +12,7 @@ use Rattle.decode_number.specs.Answer.{extent}
 use Rattle.decode_term.proofs.Laws.Headed.{headed}
 use Rattle.decode_term.proofs.Laws.Node.{nodes}
 use Rattle.decode_slice.proofs.Laws.Scope.{scopes}
-use Rattle.decode_slice.proofs.Laws.Sorts.{processNode, process-layout}
+use Rattle.decode_slice.proofs.Laws.Sorts.{process_node, process_layout}
 use Rattle.decode_slice.proofs.process.read.Reads as read
 use Rattle.decode_slice.proofs.process.read.Kinds as read-kinds
 use Rattle.decode_slice.proofs.process.+read.Lts-read as read-lts
@@ -32,7 +32,7 @@ read_below t = and 1 read-kinds.ps (falls 1 read-kinds.ps ◌<◌ left t) read.P
 
 abbrev invariant-loop : read-lts.invariant-loop
 invariant-loop s at scope left i₀ inner₀ nodes₀ i inner nodes =
-    (extent (process left scope s at) ≡ processNode nodes inner s i) × Fits w64 inner × (nodes ≤ left)
+    (extent (process left scope s at) ≡ process_node nodes inner s i) × Fits w64 inner × (nodes ≤ left)
 
 abbrev decreases-loop : read-lts.decreases-loop
 decreases-loop s at scope left i₀ inner₀ nodes₀ i inner nodes = nodes
@@ -41,7 +41,7 @@ pub +read-spec : {M : Type 1} → statement M
 +read-spec = close left λ t. read-lts.spec
     (head-reads.Asked, head-reads.Learnt, layout-reads.Asked, layout-reads.Learnt, read_below t, read.Post) (read_at t) read.Post
     invariant-loop decreases-loop
-    (λ c. (process-layout _ _ _ _, search rules, search rules))
+    (λ c. (process_layout _ _ _ _, search rules, search rules))
     (λ c κs. search rules)
     (λ c. search rules)
     (λ c κs. search (rules, headed))
@@ -49,11 +49,11 @@ pub +read-spec : {M : Type 1} → statement M
     (λ c. search (rules, scopes))
     (λ c. search (rules, headed))
     (λ c. search (rules, headed))
-    (λ c. (search (rules, nodes, scopes) ∙ process-layout _ _ _ _, search (rules, scopes), search rules))
+    (λ c. (search (rules, nodes, scopes) ∙ process_layout _ _ _ _, search (rules, scopes), search rules))
     (λ c κs. search (rules, headed))
     (λ c. search rules)
     (λ c. search (rules, headed))
-    (λ c. (search (rules, nodes, scopes) ∙ process-layout _ _ _ _, search (rules, scopes), search rules))
+    (λ c. (search (rules, nodes, scopes) ∙ process_layout _ _ _ _, search (rules, scopes), search rules))
     (λ c. search rules)
     (λ c. search (rules, nodes, scopes))
     (λ c. search rules)

@@ -9,7 +9,7 @@ use Rattle.meaning.specs.Bytes.Reading.{term}
 use Rattle.decode_number.specs.Answer.{extent}
 use Rattle.decode_term.proofs.Laws.Headed.{headed}
 use Rattle.decode_term.proofs.Laws.Node.{nodes}
-use Rattle.decode_term.proofs.Laws.Terms.{termNode, term-layout}
+use Rattle.decode_term.proofs.Laws.Terms.{term_node, term_layout}
 use Rattle.decode_term.proofs.term.read.Reads as read
 use Rattle.decode_term.proofs.term.read.Kinds as read-kinds
 use Rattle.decode_term.proofs.term.+read.Lts-read as read-lts
@@ -28,7 +28,7 @@ abbrev read_below : ℕ → In 1 read-kinds.ps
 read_below t = and 1 read-kinds.ps (falls 1 read-kinds.ps ◌<◌ left t) read.Pre
 
 abbrev invariant-loop : read-lts.invariant-loop
-invariant-loop s at scope left i₀ nodes₀ i nodes = (extent (term left scope s at) ≡ termNode nodes scope s i) × (nodes ≤ left)
+invariant-loop s at scope left i₀ nodes₀ i nodes = (extent (term left scope s at) ≡ term_node nodes scope s i) × (nodes ≤ left)
 
 abbrev decreases-loop : read-lts.decreases-loop
 decreases-loop s at scope left i₀ nodes₀ i nodes = nodes
@@ -37,18 +37,18 @@ pub +read-spec : {M : Type 1} → statement M
 +read-spec = close left λ t. read-lts.spec
     (head-reads.Asked, head-reads.Learnt, layout-reads.Asked, layout-reads.Learnt, read_below t, read.Post) (read_at t) read.Post
     invariant-loop decreases-loop
-    (λ c. (term-layout _ _ _ _, search rules))
+    (λ c. (term_layout _ _ _ _, search rules))
     (λ c κs. search rules)
     (λ c. search rules)
     (λ c κs. search (rules, headed))
     (λ c. search (rules, nodes))
     (λ c. search (rules, headed))
     (λ c. search (rules, headed))
-    (λ c. (search (rules, nodes) ∙ term-layout _ _ _ _, search rules))
+    (λ c. (search (rules, nodes) ∙ term_layout _ _ _ _, search rules))
     (λ c κs. search (rules, headed))
     (λ c. search rules)
     (λ c. search (rules, headed))
-    (λ c. (search (rules, nodes) ∙ term-layout _ _ _ _, search rules))
+    (λ c. (search (rules, nodes) ∙ term_layout _ _ _ _, search rules))
     (λ c. search rules)
     (λ c. search (rules, nodes))
     (λ c. search rules)

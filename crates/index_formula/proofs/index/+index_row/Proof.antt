@@ -5,7 +5,7 @@ use borrow.Author.Rules.{rules}
 use borrow.Fn.Kinds.{In, ParamKind}
 use borrow.Fn.PlainCycle.{Measures, is, falls, and}
 use mathlib.Core.List.{List}
-use Rattle.buffer.proofs.Laws.Buffer.{unchanged, one-after}
+use Rattle.buffer.proofs.Laws.Buffer.{unchanged, one_after}
 use Rattle.index_formula.proofs.Laws.Index.{indexing, rows}
 use Rattle.index_formula.proofs.index.index.Reads as index
 use Rattle.index_formula.proofs.index.index.Kinds as index-kinds
@@ -86,7 +86,7 @@ pub +index-row-spec : {M : Type 1} → statement M
     (λ c κs. search rules)
     (λ c κs. search rules)
     (λ c. search rules)
-    (λ c. (search (rules, one-after), search (rules, indexing))))
+    (λ c. (search (rules, one_after), search (rules, indexing))))
     λ t. row-lts.spec (row-claims t)
     (at row-kinds.ps μ-row row.Pre t)
     row.Post
@@ -98,4 +98,4 @@ pub +index-row-spec : {M : Type 1} → statement M
     (λ c κs. search rules)
     (λ c κs. search rules)
     (λ c. search rules)
-    (λ c. (search (rules, one-after), search (rules, rows)))
+    (λ c. (search (rules, one_after), search (rules, rows)))

@@ -6,7 +6,7 @@ use borrow.Fn.Kinds.{In, ParamKind}
 use borrow.Fn.PlainCycle.{Measures, is, falls, and}
 use mathlib.Core.List.{List}
 use Rattle.buffer.proofs.Laws.Buffer.{unchanged}
-use Rattle.index_process.proofs.Laws.Index.{model-left, indexing, rows}
+use Rattle.index_process.proofs.Laws.Index.{model_left, indexing, rows}
 use Rattle.index_process.proofs.index.index.Reads as index
 use Rattle.index_process.proofs.index.index.Kinds as index-kinds
 use Rattle.index_process.proofs.index.+index_row.Lts-index as index-lts
@@ -86,7 +86,7 @@ pub +index-row-spec : {M : Type 1} → statement M
     (λ c κs. search rules)
     (λ c κs. search rules)
     (λ c. search rules)
-    (λ c. (search (rules, model-left), search (rules, indexing))))
+    (λ c. (search (rules, model_left), search (rules, indexing))))
     λ t. row-lts.spec (row-claims t)
     (at row-kinds.ps μ-row row.Pre t)
     row.Post
@@ -98,4 +98,4 @@ pub +index-row-spec : {M : Type 1} → statement M
     (λ c κs. search rules)
     (λ c κs. search rules)
     (λ c. search rules)
-    (λ c. (search (rules, model-left), search (rules, rows)))
+    (λ c. (search (rules, model_left), search (rules, rows)))

@@ -1,6 +1,6 @@
 -- `index_process::index::write` meets its contract.
 use borrow.Author.Rules.{rules}
-use Rattle.index_process.proofs.Laws.Read.{two-written}
+use Rattle.index_process.proofs.Laws.Read.{two_written}
 use Rattle.index_process.proofs.index.write.Statement.{statement}
 use Rattle.index_process.proofs.index.write.Tie as tie
 
@@ -10,4 +10,4 @@ write_spec = tie.close (tie.spec
     (λ c. search rules)
     (λ c κs. search rules)
     (λ c. search rules)
-    (λ c. (search rules, search (rules, two-written))))
+    (λ c. (search rules, search (rules, two_written))))

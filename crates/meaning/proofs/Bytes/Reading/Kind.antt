@@ -7,40 +7,40 @@ use Prim.Native.Nat.{ℕ, zero, suc, ◌+◌, ◌≤◌, ◌<◌}
 use native.Mathlib.Omega.{arith}
 use lib.Dec.{T, lit≤}
 use lib.ListN.{length, get_elem?}
-use Rattle.meaning.specs.Messages.Term.{sideKind, binaryKind}
-use Rattle.meaning.specs.Bytes.Encoding.{encodeNumber}
+use Rattle.meaning.specs.Messages.Term.{side_kind, binary_kind}
+use Rattle.meaning.specs.Bytes.Encoding.{encode_number}
 use Rattle.meaning.specs.Bytes.Number.{found, and_then}
-use Rattle.meaning.specs.Bytes.Kind.{TermKind, termKinds, ProcessKind, processKinds, FormulaKind, formulaKinds}
+use Rattle.meaning.specs.Bytes.Kind.{TermKind, term_kinds, ProcessKind, process_kinds, FormulaKind, formula_kinds}
 use Rattle.meaning.specs.Bytes.Reading.{kind, listed}
 use Rattle.meaning.specs.Bytes.WellFormed.{Bytes}
 use Rattle.meaning.specs.Bytes.Standing.{Stands}
-use Rattle.meaning.proofs.Bytes.Reader.{Only, holds, fails, and-then, by-provided, provided-found}
-use Rattle.meaning.proofs.Bytes.Reading.Number.{encode-short, number-sound, number-complete}
+use Rattle.meaning.proofs.Bytes.Reader.{Only, holds, fails, and-then, by_provided, provided_found}
+use Rattle.meaning.proofs.Bytes.Reading.Number.{encode_short, number_sound, number_complete}
 
 -- The number of each kind.
-abbrev pub termCode : TermKind → ℕ
-termCode TermKind.name = 0
-termCode TermKind.variable = 1
-termCode (TermKind.proj side) = sideKind side
-termCode (TermKind.binary b) = binaryKind b
+abbrev pub term_code : TermKind → ℕ
+term_code TermKind.name = 0
+term_code TermKind.variable = 1
+term_code (TermKind.proj side) = side_kind side
+term_code (TermKind.binary b) = binary_kind b
 
-abbrev pub processCode : ProcessKind → ℕ
-processCode ProcessKind.nil = 0
-processCode ProcessKind.new = 1
-processCode ProcessKind.output = 2
-processCode ProcessKind.input = 3
-processCode ProcessKind.if = 4
-processCode ProcessKind.let-in = 5
-processCode ProcessKind.par = 6
-processCode ProcessKind.repl = 7
+abbrev pub process_code : ProcessKind → ℕ
+process_code ProcessKind.nil = 0
+process_code ProcessKind.new = 1
+process_code ProcessKind.output = 2
+process_code ProcessKind.input = 3
+process_code ProcessKind.if = 4
+process_code ProcessKind.let_in = 5
+process_code ProcessKind.par = 6
+process_code ProcessKind.repl = 7
 
-abbrev pub formulaCode : FormulaKind → ℕ
-formulaCode FormulaKind.equal = 0
-formulaCode FormulaKind.not = 1
-formulaCode FormulaKind.and = 2
-formulaCode FormulaKind.output = 3
-formulaCode FormulaKind.input = 4
-formulaCode FormulaKind.silent = 5
+abbrev pub formula_code : FormulaKind → ℕ
+formula_code FormulaKind.equal = 0
+formula_code FormulaKind.not = 1
+formula_code FormulaKind.and = 2
+formula_code FormulaKind.output = 3
+formula_code FormulaKind.input = 4
+formula_code FormulaKind.silent = 5
 
 -- So many numbers from n on.
 abbrev from : (n count : ℕ) → List ℕ
@@ -52,14 +52,14 @@ pub record Table {K : Type 0} (kinds : List K) (code : K → ℕ) : Type 0 where
   ordered : map code kinds ≡ from 0 (length kinds)
   few : length kinds ≤ 128
 
-pub termTable : Table termKinds termCode
-termTable = record { ordered = refl; few = lit≤ tt }
+pub term_table : Table term_kinds term_code
+term_table = record { ordered = refl; few = lit≤ tt }
 
-pub processTable : Table processKinds processCode
-processTable = record { ordered = refl; few = lit≤ tt }
+pub process_table : Table process_kinds process_code
+process_table = record { ordered = refl; few = lit≤ tt }
 
-pub formulaTable : Table formulaKinds formulaCode
-formulaTable = record { ordered = refl; few = lit≤ tt }
+pub formula_table : Table formula_kinds formula_code
+formula_table = record { ordered = refl; few = lit≤ tt }
 
 -- The kind at a place of such a list has the place for its number.
 numbered : {K : Type 0} {k : K} (code : K → ℕ) (m : ℕ) (kinds : List K) → map code kinds ≡ from m (length kinds)
@@ -71,25 +71,25 @@ numbered code m (j ∷ kinds) h (suc n) e =
     let i = numbered code (suc m) kinds rest n e in omega arith
 
 module _ {K : Type 0} {kinds : List K} {code : K → ℕ} (table : Table kinds code) where
-  listed-sound : {s : List ℕ} {at : ℕ} (n end : ℕ) → Stands s at (encodeNumber n) end
+  listed_sound : {s : List ℕ} {at : ℕ} (n end : ℕ) → Stands s at (encode_number n) end
       → (entry : Option K) → get_elem? kinds n ≡ entry → Only (λ k end. Stands s at (code k ∷ []) end) (listed entry at end)
-  listed-sound n end p none e = fails tt
-  listed-sound n end p (some k) e =
+  listed_sound n end p none e = fails tt
+  listed_sound n end p (some k) e =
       let i = numbered code 0 kinds table.ordered n e in
       let same : code k ≡ n = omega arith in
-      holds (rw (encode-short n (omega arith), ← same) at p)
+      holds (rw (encode_short n (omega arith), ← same) at p)
 
-  pub kind-sound : (allowed : K → Bool) {s : List ℕ} → Bytes s → (at : ℕ)
+  pub kind_sound : (allowed : K → Bool) {s : List ℕ} → Bytes s → (at : ℕ)
       → Only (λ k end. Stands s at (code k ∷ []) end × T (allowed k)) (kind kinds allowed s at)
   unfolding kind
-  kind-sound allowed b at =
-      and-then (number-sound b at) λ n end p. and-then (listed-sound n end p.0 (get_elem? kinds n) refl) λ k end q.
-      by-provided (allowed k) 7 at k end (λ t. (q, t)) (λ t. tt)
+  kind_sound allowed b at =
+      and-then (number_sound b at) λ n end p. and-then (listed_sound n end p.0 (get_elem? kinds n) refl) λ k end q.
+      by_provided (allowed k) 7 at k end (λ t. (q, t)) (λ t. tt)
 
-  pub kind-complete : (allowed : K → Bool) {s : List ℕ} {at end : ℕ} (k : K) → get_elem? kinds (code k) ≡ some k
+  pub kind_complete : (allowed : K → Bool) {s : List ℕ} {at end : ℕ} (k : K) → get_elem? kinds (code k) ≡ some k
       → T (allowed k) → Stands s at (code k ∷ []) end → kind kinds allowed s at ≡ found k end
   unfolding kind and_then
-  kind-complete allowed {s} {at} {end} k e t p =
+  kind_complete allowed {s} {at} {end} k e t p =
       let i = numbered code 0 kinds table.ordered (code k) e in
-      rw (number-complete (code k) (omega arith) (rw (← encode-short (code k) (omega arith)) at p), e)
-      (provided-found (allowed k) 7 at k end t)
+      rw (number_complete (code k) (omega arith) (rw (← encode_short (code k) (omega arith)) at p), e)
+      (provided_found (allowed k) 7 at k end t)

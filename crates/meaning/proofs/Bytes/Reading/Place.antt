@@ -35,16 +35,16 @@ abbrev pub Row : List ℕ → (at : ℕ) → List ℕ → List (List ℕ) → (e
 Row s at xs [] end = Stands s at xs end
 Row s at xs (ys ∷ yss) end = (mid : ℕ) × Stands s at xs mid × Row s mid ys yss end
 
-split-row : (s : List ℕ) (at : ℕ) (xs ys : List ℕ) (yss : List (List ℕ)) (end : ℕ)
+split_row : (s : List ℕ) (at : ℕ) (xs ys : List ℕ) (yss : List (List ℕ)) (end : ℕ)
     → Row s at (xs ++ ys) yss end → Row s at xs (ys ∷ yss) end
-split-row s at xs ys [] end p = split xs ys p
-split-row s at xs ys (zs ∷ zss) end (mid, p, rest) = let (e, q, r) = split xs ys p in (e, q, (mid, r, rest))
+split_row s at xs ys [] end p = split xs ys p
+split_row s at xs ys (zs ∷ zss) end (mid, p, rest) = let (e, q, r) = split xs ys p in (e, q, (mid, r, rest))
 
 -- The parts of bytes that stand in one piece.
 pub parts : {s : List ℕ} (xs : List ℕ) (yss : List (List ℕ)) {at end : ℕ}
     → Stands s at (foldl ◌++◌ xs yss) end → Row s at xs yss end
 parts xs [] p = p
-parts {s} xs (ys ∷ yss) {at} {end} p = split-row s at xs ys yss end (parts (xs ++ ys) yss p)
+parts {s} xs (ys ∷ yss) {at} {end} p = split_row s at xs ys yss end (parts (xs ++ ys) yss p)
 
 -- The whole slice stands in itself, and bytes that stand from its start to its end are the whole slice.
 pub whole-stands : (s : List ℕ) → Stands s 0 s (length s)

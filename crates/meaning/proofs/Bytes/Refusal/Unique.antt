@@ -8,11 +8,11 @@ use mathlib.Core.Option.{Option, none, some}
 use native.Mathlib.Omega.{arith}
 use borrow.Author.Tests.{le-ltb, lt-leb}
 use lib.ListN.{length, get_elem?}
-use Rattle.meaning.specs.Bytes.Scope.{largestName}
-use Rattle.meaning.specs.Bytes.Kind.{termKinds, processKinds, formulaKinds}
-use Rattle.meaning.specs.Bytes.Number.{Read, found, refused, number, firstByte, secondByte}
-use Rattle.meaning.specs.Bytes.Refusal.{Field, termFields, processFields, formulaFields, Binder, StepKind}
-use Rattle.meaning.specs.Bytes.Refusal.{Due, start, named, indexed, in-term, in-process, in-formula}
+use Rattle.meaning.specs.Bytes.Scope.{largest_name}
+use Rattle.meaning.specs.Bytes.Kind.{term_kinds, process_kinds, formula_kinds}
+use Rattle.meaning.specs.Bytes.Number.{Read, found, refused, number, first_byte_of, second_byte}
+use Rattle.meaning.specs.Bytes.Refusal.{Field, term_fields, process_fields, formula_fields, Binder, StepKind}
+use Rattle.meaning.specs.Bytes.Refusal.{Due, start, named, indexed, in_term, in_process, in_formula}
 use Rattle.meaning.specs.Bytes.Refusal.{Refusal, EndsEarly, Malformed, Unlisted, TooDeep}
 use Rattle.meaning.proofs.Bytes.Reader.{Answers}
 use Rattle.meaning.proofs.Bytes.Refusal.Sound.{Ends}
@@ -48,52 +48,52 @@ module _ {K : Type 0} (Allowed : K → Type 0) (fields : K → List Field) (at e
   by_kind none = only (refused 4 at)
   by_kind (some k) = test (Allowed k) (found (fields k) end) (refused 7 at)
 
-  past-kinds : (kinds : List K) (n : ℕ) → length kinds ≤ n → Leads (by_kind (get_elem? kinds n)) (refused 4 at)
-  past-kinds [] n h = refl
-  past-kinds (k ∷ kinds) zero h = absurd (omega arith)
-  past-kinds (k ∷ kinds) (suc n) h = past-kinds kinds n (omega arith)
+  past_kinds : (kinds : List K) (n : ℕ) → length kinds ≤ n → Leads (by_kind (get_elem? kinds n)) (refused 4 at)
+  past_kinds [] n h = refl
+  past_kinds (k ∷ kinds) zero h = absurd (omega arith)
+  past_kinds (k ∷ kinds) (suc n) h = past_kinds kinds n (omega arith)
 
-  never-allowed : ((k : K) → ¬ Allowed k) → (kinds : List K) (n : ℕ) → n < length kinds
+  never_allowed : ((k : K) → ¬ Allowed k) → (kinds : List K) (n : ℕ) → n < length kinds
       → Leads (by_kind (get_elem? kinds n)) (refused 7 at)
-  never-allowed never [] n h = absurd (omega arith)
-  never-allowed never (k ∷ kinds) zero h = fails (never k)
-  never-allowed never (k ∷ kinds) (suc n) h = never-allowed never kinds n (omega arith)
+  never_allowed never [] n h = absurd (omega arith)
+  never_allowed never (k ∷ kinds) zero h = fails (never k)
+  never_allowed never (k ∷ kinds) (suc n) h = never_allowed never kinds n (omega arith)
 
 -- The way on by a number in a field that is due, with others after it; and by what is read there.
-abbrev byNumber : List Field → Field → (at n end : ℕ) → Way
-byNumber fs Field.name at n end = test (n ≤ largestName) (found fs end) (refused 5 at)
-byNumber fs (Field.index scope) at n end = test (n < scope) (found fs end) (refused 6 at)
-byNumber fs (Field.term left scope) at n end =
-    by_kind (λ k. 0 < left) (λ k. termFields (pred left) scope k ++ fs) at end (get_elem? termKinds n)
-byNumber fs (Field.process left scope) at n end =
-    by_kind (λ k. (0 < left) × (Binder k → scope < 12)) (λ k. processFields (pred left) scope k ++ fs) at end
-    (get_elem? processKinds n)
-byNumber fs (Field.formula left steps scope) at n end =
-    by_kind (λ k. (0 < left) × (StepKind k → 0 < steps)) (λ k. formulaFields (pred left) steps scope k ++ fs) at end
-    (get_elem? formulaKinds n)
+abbrev by_field : List Field → Field → (at n end : ℕ) → Way
+by_field fs Field.name at n end = test (n ≤ largest_name) (found fs end) (refused 5 at)
+by_field fs (Field.index scope) at n end = test (n < scope) (found fs end) (refused 6 at)
+by_field fs (Field.term left scope) at n end =
+    by_kind (λ k. 0 < left) (λ k. term_fields (pred left) scope k ++ fs) at end (get_elem? term_kinds n)
+by_field fs (Field.process left scope) at n end =
+    by_kind (λ k. (0 < left) × (Binder k → scope < 12)) (λ k. process_fields (pred left) scope k ++ fs) at end
+    (get_elem? process_kinds n)
+by_field fs (Field.formula left steps scope) at n end =
+    by_kind (λ k. (0 < left) × (StepKind k → 0 < steps)) (λ k. formula_fields (pred left) steps scope k ++ fs) at end
+    (get_elem? formula_kinds n)
 
-abbrev byRead : List Field → Field → (at : ℕ) → Read ℕ → Way
-byRead fs f at (found n end) = byNumber fs f at n end
-byRead fs f at (refused n place) = only (refused n place)
+abbrev by_read : List Field → Field → (at : ℕ) → Read ℕ → Way
+by_read fs f at (found n end) = by_field fs f at n end
+by_read fs f at (refused n place) = only (refused n place)
 
 -- The pass from a point to its outcome, and from the start.
 data Run (s : List ℕ) : Point → Point → Type 0 where
   refuses : {n place : ℕ} → Run s (refused n place) (refused n place)
   ends : {at : ℕ} {o : Point} → Choice (length s ≤ at) (found [] at) (refused 8 at) o → Run s (found [] at) o
-  goes : {at : ℕ} {f : Field} {fs : List Field} {p o : Point} → Run s p o → Leads (byRead fs f at (number s at)) p
+  goes : {at : ℕ} {f : Field} {fs : List Field} {p o : Point} → Run s p o → Leads (by_read fs f at (number s at)) p
       → Run s (found (f ∷ fs) at) o
 
 abbrev Pass : List ℕ → Field → Point → Type 0
 Pass s root o = (p : Point) × Run s p o × Choice (length s ≤ 4096) (found (root ∷ []) 0) (refused 1 4096) p
 
-run-one : {s : List ℕ} {p o o' : Point} → Run s p o → Run s p o' → o ≡ o'
-run-one refuses refuses = refl
-run-one (ends c) (ends c') = leads_one (test _ _ _) c c'
-run-one {s} {o'} (goes {at} {f} {fs} r c) (goes r' c') =
-    run-one r (subst (λ p. Run s p o') (leads_one (byRead fs f at (number s at)) c' c) r')
+run_one : {s : List ℕ} {p o o' : Point} → Run s p o → Run s p o' → o ≡ o'
+run_one refuses refuses = refl
+run_one (ends c) (ends c') = leads_one (test _ _ _) c c'
+run_one {s} {o'} (goes {at} {f} {fs} r c) (goes r' c') =
+    run_one r (subst (λ p. Run s p o') (leads_one (by_read fs f at (number s at)) c' c) r')
 
-pass-one : {s : List ℕ} {root : Field} {o o' : Point} → Pass s root o → Pass s root o' → o ≡ o'
-pass-one {s} {o'} (p, r, c) (p', r', c') = run-one r (subst (λ p. Run s p o') (leads_one (test _ _ _) c' c) r')
+pass_one : {s : List ℕ} {root : Field} {o o' : Point} → Pass s root o → Pass s root o' → o ≡ o'
+pass_one {s} {o'} (p, r, c) (p', r', c') = run_one r (subst (λ p. Run s p o') (leads_one (test _ _ _) c' c) r')
 
 -- The pass goes on from wherever fields are due.
 onward : {s : List ℕ} {root : Field} {at : ℕ} {fs : List Field} {o : Point} → Due s root at fs → Run s (found fs at) o
@@ -101,52 +101,52 @@ onward : {s : List ℕ} {root : Field} {at : ℕ} {fs : List Field} {o : Point} 
 onward (start h) r = (_, r, holds h)
 onward (named d read h) r = onward d (goes r (rw read (holds h)))
 onward (indexed d read h) r = onward d (goes r (rw read (holds h)))
-onward (in-term d read is) r = onward d (goes r (rw (read, is) (holds (omega arith))))
-onward (in-process d read is h) r = onward d (goes r (rw (read, is) (holds (omega arith, h))))
-onward (in-formula d read is h) r = onward d (goes r (rw (read, is) (holds (omega arith, h))))
+onward (in_term d read is) r = onward d (goes r (rw (read, is) (holds (omega arith))))
+onward (in_process d read is h) r = onward d (goes r (rw (read, is) (holds (omega arith, h))))
+onward (in_formula d read is h) r = onward d (goes r (rw (read, is) (holds (omega arith, h))))
 
 -- What each rule refuses.
-early : {l : List ℕ} (size at : ℕ) → EndsEarly l → firstByte size at l ≡ refused 2 size
-unfolding firstByte secondByte
+early : {l : List ℕ} (size at : ℕ) → EndsEarly l → first_byte_of size at l ≡ refused 2 size
+unfolding first_byte_of second_byte
 early size at EndsEarly.no_byte = refl
-early size at (EndsEarly.one_byte {b} h) = rw (le-ltb b 128 h, firstByte)
+early size at (EndsEarly.one_byte {b} h) = rw (le-ltb b 128 h, first_byte_of)
 
-malformed : {l : List ℕ} (size at : ℕ) → Malformed l → firstByte size at l ≡ refused 3 at
-unfolding firstByte secondByte
-malformed size at (Malformed.second-zero {b} h) = rw (le-ltb b 128 h, firstByte)
-malformed size at (Malformed.second-over {b} {c} h h') = rw (le-ltb b 128 h, firstByte, lt-leb c 127 h', secondByte, and-false)
+malformed : {l : List ℕ} (size at : ℕ) → Malformed l → first_byte_of size at l ≡ refused 3 at
+unfolding first_byte_of second_byte
+malformed size at (Malformed.second_zero {b} h) = rw (le-ltb b 128 h, first_byte_of)
+malformed size at (Malformed.second_over {b} {c} h h') = rw (le-ltb b 128 h, first_byte_of, lt-leb c 127 h', second_byte, and-false)
 
-unlisted : (fs : List Field) (f : Field) (at n end : ℕ) → Unlisted f n → Leads (byNumber fs f at n end) (refused 4 at)
+unlisted : (fs : List Field) (f : Field) (at n end : ℕ) → Unlisted f n → Leads (by_field fs f at n end) (refused 4 at)
 unlisted fs Field.name at n end u = absurd u
 unlisted fs (Field.index scope) at n end u = absurd u
-unlisted fs (Field.term left scope) at n end u = past-kinds _ _ at end termKinds n u
-unlisted fs (Field.process left scope) at n end u = past-kinds _ _ at end processKinds n u
-unlisted fs (Field.formula left steps scope) at n end u = past-kinds _ _ at end formulaKinds n u
+unlisted fs (Field.term left scope) at n end u = past_kinds _ _ at end term_kinds n u
+unlisted fs (Field.process left scope) at n end u = past_kinds _ _ at end process_kinds n u
+unlisted fs (Field.formula left steps scope) at n end u = past_kinds _ _ at end formula_kinds n u
 
-too-deep : {f : Field} {n : ℕ} (fs : List Field) (at end : ℕ) → TooDeep f n → Leads (byNumber fs f at n end) (refused 7 at)
-too-deep fs at end (TooDeep.term-node {n} h) = never-allowed _ _ at end (λ k a. omega arith) termKinds n h
-too-deep fs at end (TooDeep.process-node {n} h) = never-allowed _ _ at end (λ k a. omega arith) processKinds n h
-too-deep fs at end (TooDeep.formula-node {n} h) = never-allowed _ _ at end (λ k a. omega arith) formulaKinds n h
-too-deep fs at end (TooDeep.variable is b h) = rw is (fails (λ a. let l = a.1 b in omega arith))
-too-deep fs at end (TooDeep.step is b) = rw is (fails (λ a. let l = a.1 b in omega arith))
+too_deep : {f : Field} {n : ℕ} (fs : List Field) (at end : ℕ) → TooDeep f n → Leads (by_field fs f at n end) (refused 7 at)
+too_deep fs at end (TooDeep.term-node {n} h) = never_allowed _ _ at end (λ k a. omega arith) term_kinds n h
+too_deep fs at end (TooDeep.process-node {n} h) = never_allowed _ _ at end (λ k a. omega arith) process_kinds n h
+too_deep fs at end (TooDeep.formula-node {n} h) = never_allowed _ _ at end (λ k a. omega arith) formula_kinds n h
+too_deep fs at end (TooDeep.variable is b h) = rw is (fails (λ a. let l = a.1 b in omega arith))
+too_deep fs at end (TooDeep.step is b) = rw is (fails (λ a. let l = a.1 b in omega arith))
 
 -- A refusal is the outcome of the pass.
 outcome : {s : List ℕ} {root : Field} {n place : ℕ} → Refusal s root n place → Pass s root (refused n place)
 unfolding number
-outcome (Refusal.slice-too-long h) = (_, refuses, fails (λ l. omega arith))
-outcome {s} (Refusal.ended-early {p} d h) = onward d (goes refuses (rw (early (length s) p h)))
-outcome {s} (Refusal.bad-form {p} d h) = onward d (goes refuses (rw (malformed (length s) p h)))
-outcome (Refusal.unlisted-kind {p} {k} {e} {f} {fs} d read u) = onward d (goes refuses (rw read (unlisted fs f p k e u)))
-outcome (Refusal.name-over d read h) = onward d (goes refuses (rw read (fails (λ l. omega arith))))
-outcome (Refusal.out-of-scope d read h) = onward d (goes refuses (rw read (fails (λ l. omega arith))))
-outcome (Refusal.too-deep {p} {e} {fs} d read h) = onward d (goes refuses (rw read (too-deep fs p e h)))
+outcome (Refusal.slice_too_long h) = (_, refuses, fails (λ l. omega arith))
+outcome {s} (Refusal.ended_early {p} d h) = onward d (goes refuses (rw (early (length s) p h)))
+outcome {s} (Refusal.bad_form {p} d h) = onward d (goes refuses (rw (malformed (length s) p h)))
+outcome (Refusal.unlisted_kind {p} {k} {e} {f} {fs} d read u) = onward d (goes refuses (rw read (unlisted fs f p k e u)))
+outcome (Refusal.name_over d read h) = onward d (goes refuses (rw read (fails (λ l. omega arith))))
+outcome (Refusal.out_of_scope d read h) = onward d (goes refuses (rw read (fails (λ l. omega arith))))
+outcome (Refusal.too_deep {p} {e} {fs} d read h) = onward d (goes refuses (rw read (too_deep fs p e h)))
 outcome (Refusal.left_over d h) = onward d (ends (fails (λ l. omega arith)))
 
-pub one-refusal : {s : List ℕ} {root : Field} {n n' p p' : ℕ} → Refusal s root n p → Refusal s root n' p' → (n ≡ n') × (p ≡ p')
-one-refusal t t' = let e = pass-one (outcome t) (outcome t') in (cc, cc)
+pub one_refusal : {s : List ℕ} {root : Field} {n n' p p' : ℕ} → Refusal s root n p → Refusal s root n' p' → (n ≡ n') × (p ≡ p')
+one_refusal t t' = let e = pass_one (outcome t) (outcome t') in (cc, cc)
 
 -- A reader's answer is the refusal wherever there is one.
 pub as-refusal : {s : List ℕ} {root : Field} {A : Type 0} {r : Read A} {n place : ℕ} → Ends s root r → Refusal s root n place
     → r ≡ refused n place
-as-refusal (Answers.holds (d, h)) t = let e = pass-one (onward d (ends (holds h))) (outcome t) in cc
-as-refusal (Answers.fails t') t = let e = one-refusal t' t in cc
+as-refusal (Answers.holds (d, h)) t = let e = pass_one (onward d (ends (holds h))) (outcome t) in cc
+as-refusal (Answers.fails t') t = let e = one_refusal t' t in cc

@@ -10,12 +10,12 @@ use Rattle.meaning.specs.Messages.Term.{Message}
 use Rattle.meaning.specs.Messages.Equation.{Equal}
 use Rattle.meaning.specs.Messages.Normal.{equal}
 use Rattle.meaning.specs.Places.{Some, here, there, OneToOne}
-use Rattle.meaning.proofs.Messages.{equalityDecided}
+use Rattle.meaning.proofs.Messages.{equality_decided}
 
 -- An equation between types is a one-to-one correspondence.
 pub correspondence : {A B : Type 0} → A ≡ B → OneToOne A B
 correspondence p =
-    let e = path_to_iso p in record { to = e.fun; from = e.inv; to-from = e.rinv; from-to = e.linv }
+    let e = path_to_iso p in record { to = e.fun; from = e.inv; to_from = e.rinv; from_to = e.linv }
 
 -- And back, by univalence: `view` finds for each value something that it is made from, `once` that there is no other.
 bijection : {A B : Type 0} (make : B → A) (view : (a : A) → (b : B) × (make b ≡ a)) → ((b : B) → (view (make b)).0 ≡ b) → A ≡ B
@@ -25,11 +25,11 @@ bijection {A} {B} make view once = λ i.
 empty : {A : Type 0} → (A → ⊥) → A ≡ ⊥
 empty none = bijection (λ e. absurd e) (λ a. absurd (none a)) (λ e. absurd e)
 
-sum-empty : {A : Type 0} → (⊥ ⊎ A) ≡ A
-sum-empty {A} = bijection {A = ⊥ ⊎ A} inr (elim [ inl e ↦ absurd e | inr a ↦ (a, refl) ]) (λ a. refl)
+sum_empty : {A : Type 0} → (⊥ ⊎ A) ≡ A
+sum_empty {A} = bijection {A = ⊥ ⊎ A} inr (elim [ inl e ↦ absurd e | inr a ↦ (a, refl) ]) (λ a. refl)
 
-sum-assoc : {A B C : Type 0} → ((A ⊎ B) ⊎ C) ≡ (A ⊎ (B ⊎ C))
-sum-assoc {A} {B} {C} =
+sum_assoc : {A B C : Type 0} → ((A ⊎ B) ⊎ C) ≡ (A ⊎ (B ⊎ C))
+sum_assoc {A} {B} {C} =
     bijection {A = (A ⊎ B) ⊎ C} {B = A ⊎ (B ⊎ C)} (elim [ inl a ↦ inl (inl a) | inr (inl b) ↦ inl (inr b) | inr (inr c) ↦ inr c ])
     (elim [ inl (inl a) ↦ (inl a, refl) | inl (inr b) ↦ (inr (inl b), refl) | inr c ↦ (inr (inr c), refl) ])
     (elim [ inl a ↦ refl | inr (inl b) ↦ refl | inr (inr c) ↦ refl ])
@@ -47,17 +47,17 @@ some-any P (x ∷ xs) =
     ∙ ap (λ X. P x ⊎ X) (some-any P xs)
 
 any_append : {A : Type 0} (P : A → Type 0) (xs ys : List A) → (Any P xs ⊎ Any P ys) ≡ Any P (xs ++ ys)
-any_append P [] ys = sum-empty
-any_append P (x ∷ xs) ys = sum-assoc ∙ ap (λ X. P x ⊎ X) (any_append P xs ys)
+any_append P [] ys = sum_empty
+any_append P (x ∷ xs) ys = sum_assoc ∙ ap (λ X. P x ⊎ X) (any_append P xs ys)
 
-any-map : {A B : Type 0} (P : B → Type 0) (f : A → B) (xs : List A) → Any (λ x. P (f x)) xs ≡ Any P (map f xs)
-any-map P f [] = refl
-any-map P f (x ∷ xs) = ap (λ X. P (f x) ⊎ X) (any-map P f xs)
+any_map : {A B : Type 0} (P : B → Type 0) (f : A → B) (xs : List A) → Any (λ x. P (f x)) xs ≡ Any P (map f xs)
+any_map P f [] = refl
+any_map P f (x ∷ xs) = ap (λ X. P (f x) ⊎ X) (any_map P f xs)
 
-any-flatMap : {A B : Type 0} (P : B → Type 0) (f : A → List B) (xs : List A) → Any (λ x. Any P (f x)) xs ≡ Any P (flat_map f xs)
+any_flat_map : {A B : Type 0} (P : B → Type 0) (f : A → List B) (xs : List A) → Any (λ x. Any P (f x)) xs ≡ Any P (flat_map f xs)
 unfolding flat_map
-any-flatMap P f [] = refl
-any-flatMap P f (x ∷ xs) = ap (λ X. Any P (f x) ⊎ X) (any-flatMap P f xs) ∙ any_append P (f x) (flat_map f xs)
+any_flat_map P f [] = refl
+any_flat_map P f (x ∷ xs) = ap (λ X. Any P (f x) ⊎ X) (any_flat_map P f xs) ∙ any_append P (f x) (flat_map f xs)
 
 -- The derivations that lead to an x with P.
 pub data Derived {A : Type 0} (D P : A → Type 0) : Type 0 where
@@ -91,20 +91,20 @@ module _ {A : Type 0} {F G : (A → Type 0) → Type 0} {xs : List A} where
 
 module _ {A B : Type 0} {xs : List A} where
   pub mapped : {F : (A → Type 0) → Type 0} (f : A → B) → Lists F xs → Lists (λ P. F (λ x. P (f x))) (map f xs)
-  mapped f l = record { places = λ P. l.places (λ x. P (f x)) ∙ any-map P f xs }
+  mapped f l = record { places = λ P. l.places (λ x. P (f x)) ∙ any_map P f xs }
 
   pub chained : {D : A → Type 0} {G : A → (B → Type 0) → Type 0} {f : A → List B}
       → Lists (Derived D) xs → ((x : A) → D x → Lists (G x) (f x)) → Lists (λ P. Derived D (λ x. G x P)) (flat_map f xs)
   chained {D} {f = f} l m = record {
     places = λ P.
         sym derived ∙ (λ i. (x : A) × (d : D x) × (m x d).places P i) ∙ derived
-        ∙ l.places (λ x. Any P (f x)) ∙ any-flatMap P f xs;
+        ∙ l.places (λ x. Any P (f x)) ∙ any_flat_map P f xs;
   }
 
 -- One element where two messages are equal, by the test of it.
 pub if-equal : {A : Type 0} (m n : Message) (x : A)
     → Lists (λ P. Equal m n × P x) (elim (equal m n) [ true ↦ x ∷ [] | false ↦ [] ])
-if-equal m n x = tested (equal m n) (equalityDecided m n)
+if-equal m n x = tested (equal m n) (equality_decided m n)
   where
     tested : (b : Bool) → Equal m n ↔ T b → Lists (λ P. Equal m n × P x) (elim b [ true ↦ x ∷ [] | false ↦ [] ])
     tested false h = nothing (λ P d. h.0 d.0)

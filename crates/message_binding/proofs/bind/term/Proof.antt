@@ -2,7 +2,7 @@
 use native.Mathlib.Omega.{arith}
 use borrow.Author.Rules.{rules}
 use Rattle.message_binding.proofs.Laws.Bind.{counts, terms}
-use Rattle.message_term.proofs.Laws.Leaf.{no-reach}
+use Rattle.message_term.proofs.Laws.Leaf.{no_reach}
 use Rattle.message_binding.proofs.bind.term.Statement.{statement}
 use Rattle.message_binding.proofs.bind.term.Tie as tie
 
@@ -18,4 +18,4 @@ term-spec = tie.close (tie.spec
     (λ c. search rules)
     (λ c. (search (rules, terms), (search (rules, terms), search (rules, terms))))
     (λ c. search rules)
-    (λ c. (search (rules, terms), (no-reach, search (rules, terms)))))
+    (λ c. (search (rules, terms), (no_reach, search (rules, terms)))))

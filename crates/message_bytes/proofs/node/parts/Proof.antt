@@ -1,9 +1,9 @@
 -- `message_bytes::node::parts` meets its contract: each kind has its parts, and every number after them is a name's.
 use mathlib.Core.Path.{◌≡◌, refl}
 use Prim.Native.Nat.{ℕ}
-use Rattle.decode_layout.proofs.Laws.Table.{others-above}
+use Rattle.decode_layout.proofs.Laws.Table.{others_above}
 use Rattle.message_bytes.specs.Encoding.{parts_of}
-use Rattle.message_bytes.proofs.Laws.Encoding.{no-parts}
+use Rattle.message_bytes.proofs.Laws.Encoding.{no_parts}
 use Rattle.message_bytes.proofs.node.parts.Statement.{statement}
 use Rattle.message_bytes.proofs.node.parts.Tie as tie
 
@@ -22,4 +22,4 @@ parts-spec = tie.close (tie.spec
     (λ c. known 5 c.match.keys6 refl)
     (λ c. known 6 c.match.keys7 refl)
     (λ c. known 7 c.match.keys8 refl)
-    (λ c. no-parts c.before.args.number (others-above 8 c.before.args.number c.match.rest)))
+    (λ c. no_parts c.before.args.number (others_above 8 c.before.args.number c.match.rest)))

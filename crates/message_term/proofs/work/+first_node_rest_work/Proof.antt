@@ -7,11 +7,11 @@ use borrow.Author.Rules.{rules}
 use borrow.Fn.Kinds.{In, ParamKind}
 use borrow.Fn.PlainCycle.{Measures, is, falls, and}
 use Rattle.buffer.proofs.Laws.Buffer.{unchanged}
-use Rattle.message_term.proofs.Laws.Leaf.{no-reach}
+use Rattle.message_term.proofs.Laws.Leaf.{no_reach}
 use Rattle.message_term.proofs.Laws.Work.{works}
-use Rattle.message_term.proofs.Laws.Inner.{joins, behind-kind, firsts}
-use Rattle.message_term.proofs.Laws.Room.{term-rooms, none-room, end-above, end-within, rest-withins}
-use Rattle.message_term.proofs.Laws.Room.{first-within, node-rooms, rest-within}
+use Rattle.message_term.proofs.Laws.Inner.{joins, behind_kind, firsts}
+use Rattle.message_term.proofs.Laws.Room.{term_rooms, none_room, end_above, end_within, rest_withins}
+use Rattle.message_term.proofs.Laws.Room.{first_within, node_rooms, rest_within}
 use Rattle.message_term.proofs.work.first.Reads as first
 use Rattle.message_term.proofs.work.first.Kinds as first-kinds
 use Rattle.message_term.proofs.work.+first_node_rest_work.Lts-first as first-lts
@@ -61,19 +61,19 @@ pub +first-node-rest-work-spec : {M : Type 1} → statement M
     (λ c. search rules)
     (λ c κs. search rules)
     (λ c. search rules)
-    (λ c. (search (rules, first-within), (search rules, search (rules, behind-kind)))))
+    (λ c. (search (rules, first_within), (search rules, search (rules, behind_kind)))))
     (λ t. node-lts.spec
     (below first-kinds.ps μ-first first.Pre t, first.Post, below rest-kinds.ps μ-rest rest.Pre t, rest.Post)
     (at node-kinds.ps μ-node node.Pre t)
     node.Post
     (λ c κs. search rules)
     (λ c. search rules)
-    (λ c κs. search (rules, node-rooms))
+    (λ c κs. search (rules, node_rooms))
     (λ c. search rules)
     (λ c. search rules)
-    (λ c. (search (rules, rest-within), (search rules, search (rules, firsts))))
+    (λ c. (search (rules, rest_within), (search rules, search (rules, firsts))))
     (λ c. search rules)
-    (λ c. (search rules, (no-reach, search (rules, firsts)))))
+    (λ c. (search rules, (no_reach, search (rules, firsts)))))
     (λ t. rest-lts.spec
     (parts-reads.Asked, parts-reads.Learnt, below work-kinds.ps μ-work work.Pre t, work.Post, reduce-reads.Asked, reduce-reads.Learnt)
     (at rest-kinds.ps μ-rest rest.Pre t)
@@ -83,15 +83,15 @@ pub +first-node-rest-work-spec : {M : Type 1} → statement M
     (λ c. search rules)
     (λ c. search rules)
     (λ c. search rules)
-    (λ c. (search (rules, rest-withins), (no-reach, search (rules, joins))))
+    (λ c. (search (rules, rest_withins), (no_reach, search (rules, joins))))
     (λ c κs. ⊎_elim
-    (λ w. (search rules, search (rules, end-above), search (rules, end-within)))
-    (λ w. search (rules, none-room))
+    (λ w. (search rules, search (rules, end_above), search (rules, end_within)))
+    (λ w. search (rules, none_room))
     c.before.if1.branch)
     (λ c. ⊎_elim (λ w. search rules) (λ w. search rules) c.before.before.before.before.if1.branch)
     (λ c. ⊎_elim
-    (λ w. (search (rules, rest-withins), (search rules, search (rules, joins))))
-    (λ w. (search (rules, rest-withins), (search rules, search (rules, joins))))
+    (λ w. (search (rules, rest_withins), (search rules, search (rules, joins))))
+    (λ w. (search (rules, rest_withins), (search rules, search (rules, joins))))
     c.before.before.before.before.if1.branch))
     λ t. work-lts.spec (
       wide-reads.Asked,
@@ -105,20 +105,20 @@ pub +first-node-rest-work-spec : {M : Type 1} → statement M
     )
     (at work-kinds.ps μ-work work.Pre t)
     work.Post
-    (λ c. search (rules, unchanged, no-reach, works))
-    (λ c. search (rules, unchanged, no-reach, works))
+    (λ c. search (rules, unchanged, no_reach, works))
+    (λ c. search (rules, unchanged, no_reach, works))
     (λ c. search rules)
     (λ c κs. search rules)
     (λ c. search rules)
     (λ c κs. search rules)
     (λ c. search rules)
-    (λ c. (search (rules, term-rooms), (search (rules, term-rooms), search (rules, works))))
+    (λ c. (search (rules, term_rooms), (search (rules, term_rooms), search (rules, works))))
     (λ c. search rules)
     (λ c κs. search rules)
     (λ c. search rules)
-    (λ c. (search (rules, term-rooms), (search (rules, term-rooms), search (rules, works))))
+    (λ c. (search (rules, term_rooms), (search (rules, term_rooms), search (rules, works))))
     (λ c. search rules)
     (λ c. search rules)
     (λ c κs. search rules)
     (λ c. search rules)
-    (λ c. (search (rules, term-rooms), (search (rules, term-rooms), search (rules, works))))
+    (λ c. (search (rules, term_rooms), (search (rules, term_rooms), search (rules, works))))

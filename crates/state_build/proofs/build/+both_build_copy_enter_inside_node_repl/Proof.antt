@@ -6,11 +6,11 @@ use borrow.Author.Rules.{rules}
 use borrow.Fn.Kinds.{In, ParamKind}
 use borrow.Fn.PlainCycle.{Measures, is, falls, and}
 use Rattle.buffer.proofs.Laws.Buffer.{unchanged}
-use Rattle.state_progress.proofs.Laws.Progress.{extensions, to-ends, records-ends}
+use Rattle.state_progress.proofs.Laws.Progress.{extensions, to_ends, records_ends}
 use Rattle.state_head.proofs.Laws.Head.{rooms}
-use Rattle.state_head.proofs.Laws.Traverse.{traverses, nodes, par-traversed}
-use Rattle.state_head.proofs.Laws.Copy.{names-back, copies}
-use Rattle.state_build.proofs.Laws.Build.{is-act, copy-built, builts, repl-built}
+use Rattle.state_head.proofs.Laws.Traverse.{traverses, nodes, par_traversed}
+use Rattle.state_head.proofs.Laws.Copy.{names_back, copies}
+use Rattle.state_build.proofs.Laws.Build.{is_act, copy_built, builts, repl_built}
 use Rattle.state_build.proofs.build.both.Reads as both
 use Rattle.state_build.proofs.build.both.Kinds as both-kinds
 use Rattle.state_build.proofs.build.+both_build_copy_enter_inside_node_repl.Lts-both as both-lts
@@ -153,10 +153,10 @@ both-build-requires-2 : (t : ℕ) → both-lts.Need-build-requires-2 (both-claim
 both-build-requires-2 t c κs = search rules
 
 both-returns : (t : ℕ) → both-lts.Need-returns (both-claims t) (at both-kinds.ps μ-both both.Pre t) both.Post
-both-returns t c = ((search (rules, extensions), search (rules, to-ends), search (rules, records-ends)), search (rules, par-traversed))
+both-returns t c = ((search (rules, extensions), search (rules, to_ends), search (rules, records_ends)), search (rules, par_traversed))
 
 build-returns : (t : ℕ) → build-lts.Need-returns (build-claims t) (at build-kinds.ps μ-build build.Pre t) build.Post
-build-returns t c = (search (rules, extensions), (search (rules, unchanged, to-ends), (search (rules, unchanged, records-ends), search (rules, traverses))))
+build-returns t c = (search (rules, extensions), (search (rules, unchanged, to_ends), (search (rules, unchanged, records_ends), search (rules, traverses))))
 
 build-descend-requires : (t : ℕ) → build-lts.Need-descend-requires (build-claims t) (at build-kinds.ps μ-build build.Pre t) build.Post
 build-descend-requires t c κs = search rules
@@ -165,13 +165,13 @@ build-node-requires : (t : ℕ) → build-lts.Need-node-requires (build-claims t
 build-node-requires t c κs = search (rules, rooms)
 
 build-returns-2 : (t : ℕ) → build-lts.Need-returns-2 (build-claims t) (at build-kinds.ps μ-build build.Pre t) build.Post
-build-returns-2 t c = (search (rules, extensions), (search (rules, to-ends), (search (rules, records-ends), search (rules, traverses))))
+build-returns-2 t c = (search (rules, extensions), (search (rules, to_ends), (search (rules, records_ends), search (rules, traverses))))
 
 build-stop-requires : (t : ℕ) → build-lts.Need-stop-requires (build-claims t) (at build-kinds.ps μ-build build.Pre t) build.Post
 build-stop-requires t c κs = search rules
 
 build-returns-3 : (t : ℕ) → build-lts.Need-returns-3 (build-claims t) (at build-kinds.ps μ-build build.Pre t) build.Post
-build-returns-3 t c = (search (rules, extensions), (search (rules, to-ends), (search (rules, unchanged, records-ends), search (rules, traverses))))
+build-returns-3 t c = (search (rules, extensions), (search (rules, to_ends), (search (rules, unchanged, records_ends), search (rules, traverses))))
 
 copy-count-requires : (t : ℕ) → copy-lts.Need-count-requires (copy-claims t) (at copy-kinds.ps μ-copy copy.Pre t) copy.Post
 copy-count-requires t c κs = search rules
@@ -186,10 +186,10 @@ copy-stop-requires : (t : ℕ) → copy-lts.Need-stop-requires (copy-claims t) (
 copy-stop-requires t c κs = search rules
 
 copy-returns : (t : ℕ) → copy-lts.Need-returns (copy-claims t) (at copy-kinds.ps μ-copy copy.Pre t) copy.Post
-copy-returns t c = ((search (rules, extensions), search (rules, to-ends), search (rules, records-ends)), search (rules, copy-built))
+copy-returns t c = ((search (rules, extensions), search (rules, to_ends), search (rules, records_ends)), search (rules, copy_built))
 
 copy-returns-2 : (t : ℕ) → copy-lts.Need-returns-2 (copy-claims t) (at copy-kinds.ps μ-copy copy.Pre t) copy.Post
-copy-returns-2 t c = ((search (rules, extensions), search (rules, to-ends), search (rules, unchanged, records-ends)), search (rules, copies))
+copy-returns-2 t c = ((search (rules, extensions), search (rules, to_ends), search (rules, unchanged, records_ends)), search (rules, copies))
 
 enter-contains-requires : (t : ℕ) → enter-lts.Need-contains-requires (enter-claims t) (at enter-kinds.ps μ-enter enter.Pre t) enter.Post
 enter-contains-requires t c κs = search rules
@@ -198,7 +198,7 @@ enter-copy-requires : (t : ℕ) → enter-lts.Need-copy-requires (enter-claims t
 enter-copy-requires t c κs = search rules
 
 enter-returns : (t : ℕ) → enter-lts.Need-returns (enter-claims t) (at enter-kinds.ps μ-enter enter.Pre t) enter.Post
-enter-returns t c = ((search (rules, extensions), search (rules, to-ends), search (rules, records-ends)), search (rules, builts))
+enter-returns t c = ((search (rules, extensions), search (rules, to_ends), search (rules, records_ends)), search (rules, builts))
 
 enter-contains-requires-2 : (t : ℕ) → enter-lts.Need-contains-requires-2 (enter-claims t) (at enter-kinds.ps μ-enter enter.Pre t) enter.Post
 enter-contains-requires-2 t c κs = search rules
@@ -207,7 +207,7 @@ enter-copy-requires-2 : (t : ℕ) → enter-lts.Need-copy-requires-2 (enter-clai
 enter-copy-requires-2 t c κs = search rules
 
 enter-returns-2 : (t : ℕ) → enter-lts.Need-returns-2 (enter-claims t) (at enter-kinds.ps μ-enter enter.Pre t) enter.Post
-enter-returns-2 t c = ((search (rules, extensions), search (rules, to-ends), search (rules, records-ends)), search (rules, builts))
+enter-returns-2 t c = ((search (rules, extensions), search (rules, to_ends), search (rules, records_ends)), search (rules, builts))
 
 enter-taking-requires : (t : ℕ) → enter-lts.Need-taking-requires (enter-claims t) (at enter-kinds.ps μ-enter enter.Pre t) enter.Post
 enter-taking-requires t c κs = search rules
@@ -216,10 +216,10 @@ enter-copy-requires-3 : (t : ℕ) → enter-lts.Need-copy-requires-3 (enter-clai
 enter-copy-requires-3 t c κs = search rules
 
 enter-returns-3 : (t : ℕ) → enter-lts.Need-returns-3 (enter-claims t) (at enter-kinds.ps μ-enter enter.Pre t) enter.Post
-enter-returns-3 t c = ((search (rules, extensions), search (rules, to-ends), search (rules, records-ends)), search (rules, builts))
+enter-returns-3 t c = ((search (rules, extensions), search (rules, to_ends), search (rules, records_ends)), search (rules, builts))
 
 enter-returns-4 : (t : ℕ) → enter-lts.Need-returns-4 (enter-claims t) (at enter-kinds.ps μ-enter enter.Pre t) enter.Post
-enter-returns-4 t c = ((search (rules, extensions), search (rules, unchanged, to-ends), search (rules, unchanged, records-ends)), search (rules, builts))
+enter-returns-4 t c = ((search (rules, extensions), search (rules, unchanged, to_ends), search (rules, unchanged, records_ends)), search (rules, builts))
 
 inside-build-requires : (t : ℕ) → inside-lts.Need-build-requires (inside-claims t) (at inside-kinds.ps μ-inside inside.Pre t) inside.Post
 inside-build-requires t c κs = search rules
@@ -228,7 +228,7 @@ inside-named-requires : (t : ℕ) → inside-lts.Need-named-requires (inside-cla
 inside-named-requires t c κs = search rules
 
 inside-returns : (t : ℕ) → inside-lts.Need-returns (inside-claims t) (at inside-kinds.ps μ-inside inside.Pre t) inside.Post
-inside-returns t c = ((search (rules, extensions), search (rules, to-ends), search (rules, records-ends)), search (rules, names-back))
+inside-returns t c = ((search (rules, extensions), search (rules, to_ends), search (rules, records_ends)), search (rules, names_back))
 
 node-named-requires : (t : ℕ) → node-lts.Need-named-requires (node-claims t) (at node-kinds.ps μ-node node.Pre t) node.Post
 node-named-requires t c κs = search rules
@@ -237,25 +237,25 @@ node-wide-requires : (t : ℕ) → node-lts.Need-wide-requires (node-claims t) (
 node-wide-requires t c κs = search rules
 
 node-returns : (t : ℕ) → node-lts.Need-returns (node-claims t) (at node-kinds.ps μ-node node.Pre t) node.Post
-node-returns t c = ((search (rules, extensions), search (rules, unchanged, to-ends), search (rules, unchanged, records-ends)), search (rules, nodes))
+node-returns t c = ((search (rules, extensions), search (rules, unchanged, to_ends), search (rules, unchanged, records_ends)), search (rules, nodes))
 
 node-both-requires : (t : ℕ) → node-lts.Need-both-requires (node-claims t) (at node-kinds.ps μ-node node.Pre t) node.Post
 node-both-requires t c κs = search rules
 
 node-returns-2 : (t : ℕ) → node-lts.Need-returns-2 (node-claims t) (at node-kinds.ps μ-node node.Pre t) node.Post
-node-returns-2 t c = ((search (rules, extensions), search (rules, to-ends), search (rules, records-ends)), search (rules, nodes))
+node-returns-2 t c = ((search (rules, extensions), search (rules, to_ends), search (rules, records_ends)), search (rules, nodes))
 
 node-repl-requires : (t : ℕ) → node-lts.Need-repl-requires (node-claims t) (at node-kinds.ps μ-node node.Pre t) node.Post
 node-repl-requires t c κs = search rules
 
 node-returns-3 : (t : ℕ) → node-lts.Need-returns-3 (node-claims t) (at node-kinds.ps μ-node node.Pre t) node.Post
-node-returns-3 t c = ((search (rules, extensions), search (rules, to-ends), search (rules, records-ends)), search (rules, nodes))
+node-returns-3 t c = ((search (rules, extensions), search (rules, to_ends), search (rules, records_ends)), search (rules, nodes))
 
 node-act-requires : (t : ℕ) → node-lts.Need-act-requires (node-claims t) (at node-kinds.ps μ-node node.Pre t) node.Post
 node-act-requires t c κs = search rules
 
 node-returns-4 : (t : ℕ) → node-lts.Need-returns-4 (node-claims t) (at node-kinds.ps μ-node node.Pre t) node.Post
-node-returns-4 t c = ((search (rules, extensions), search (rules, to-ends), search (rules, records-ends)), search (rules, is-act))
+node-returns-4 t c = ((search (rules, extensions), search (rules, to_ends), search (rules, records_ends)), search (rules, is_act))
 
 repl-enter-requires : (t : ℕ) → repl-lts.Need-enter-requires (repl-claims t) (at repl-kinds.ps μ-repl repl.Pre t) repl.Post
 repl-enter-requires t c κs = search rules
@@ -264,7 +264,7 @@ repl-keep-requires : (t : ℕ) → repl-lts.Need-keep-requires (repl-claims t) (
 repl-keep-requires t c κs = search rules
 
 repl-returns : (t : ℕ) → repl-lts.Need-returns (repl-claims t) (at repl-kinds.ps μ-repl repl.Pre t) repl.Post
-repl-returns t c = ((search (rules, extensions), search (rules, to-ends), search (rules, records-ends)), search (rules, repl-built))
+repl-returns t c = ((search (rules, extensions), search (rules, to_ends), search (rules, records_ends)), search (rules, repl_built))
 
 pub +both-build-copy-enter-inside-node-repl-spec : {M : Type 1} → statement M
 +both-build-copy-enter-inside-node-repl-spec =

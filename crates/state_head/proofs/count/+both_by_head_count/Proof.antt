@@ -6,14 +6,14 @@ use borrow.Author.Rules.{rules}
 use borrow.Fn.Kinds.{In, ParamKind}
 use borrow.Fn.PlainCycle.{Measures, is, falls, and}
 use Rattle.buffer.proofs.Laws.Buffer.{unchanged}
-use Rattle.state_progress.proofs.Laws.Progress.{to-ends}
+use Rattle.state_progress.proofs.Laws.Progress.{to_ends}
 use Rattle.state_head.proofs.Laws.Head.{rooms}
-use Rattle.state_head.proofs.Laws.Count.{heads-counted, pars-counted}
-use Rattle.state_head.proofs.Laws.Fixed.{fixed-ones}
+use Rattle.state_head.proofs.Laws.Count.{heads_counted, pars_counted}
+use Rattle.state_head.proofs.Laws.Fixed.{fixed_ones}
 use Rattle.state_head.proofs.count.both.Reads as both
 use Rattle.state_head.proofs.count.both.Kinds as both-kinds
 use Rattle.state_head.proofs.count.+both_by_head_count.Lts-both as both-lts
-use Rattle.state_head.proofs.count.by_head.Reads as by-head
+use Rattle.state_head.proofs.count.by_head.Reads as by_head
 use Rattle.state_head.proofs.count.by_head.Kinds as by-head-kinds
 use Rattle.state_head.proofs.count.+both_by_head_count.Lts-by_head as by-head-lts
 use Rattle.state_head.proofs.count.count.Reads as count
@@ -64,8 +64,8 @@ abbrev count-claims : ℕ → count-lts.Claims
 count-claims t = (
   fixed-Reads.Asked,
   fixed-Reads.Learnt,
-  below by-head-kinds.ps μ-by-head by-head.Pre t,
-  by-head.Post,
+  below by-head-kinds.ps μ-by-head by_head.Pre t,
+  by_head.Post,
 )
 
 pub +both-by-head-count-spec : {M : Type 1} → statement M
@@ -87,28 +87,28 @@ pub +both-by-head-count-spec : {M : Type 1} → statement M
     (λ c κs. search rules)
     (λ c. search rules)
     (λ c. search rules)
-    (λ c. (search (rules, to-ends), search (rules, pars-counted)))
+    (λ c. (search (rules, to_ends), search (rules, pars_counted)))
     (λ c. search rules)
-    (λ c. (search (rules, to-ends), search (rules, pars-counted))))
+    (λ c. (search (rules, to_ends), search (rules, pars_counted))))
     (λ t. by-head-lts.spec (by-head-claims t)
-    (at by-head-kinds.ps μ-by-head by-head.Pre t)
-    by-head.Post
+    (at by-head-kinds.ps μ-by-head by_head.Pre t)
+    by_head.Post
     (λ c κs. search rules)
     (λ c. search (rules, rooms))
     (λ c κs. search rules)
     (λ c κs. search (rules, rooms))
     (λ c. search rules)
-    (λ c. (search (rules, to-ends), search (rules, heads-counted)))
+    (λ c. (search (rules, to_ends), search (rules, heads_counted)))
     (λ c. search rules)
-    (λ c. (search (rules, to-ends), search (rules, heads-counted)))
+    (λ c. (search (rules, to_ends), search (rules, heads_counted)))
     (λ c. search rules)
-    (λ c. (search (rules, to-ends), search (rules, heads-counted))))
+    (λ c. (search (rules, to_ends), search (rules, heads_counted))))
     λ t. count-lts.spec (count-claims t)
     (at count-kinds.ps μ-count count.Pre t)
     count.Post
     (λ c κs. search rules)
     (λ c. search rules)
-    (λ c. (search (rules, unchanged), search (rules, fixed-ones)))
+    (λ c. (search (rules, unchanged), search (rules, fixed_ones)))
     (λ c κs. search rules)
     (λ c. search rules)
-    (λ c. (search (rules, to-ends), search rules))
+    (λ c. (search (rules, to_ends), search rules))

@@ -4,7 +4,7 @@ use lib.ListN.{length}
 use borrow.Author.Rules.{rules}
 use Rattle.buffer.specs.Buffer.{Within}
 use Rattle.buffer.proofs.Laws.Buffer.{unchanged}
-use Rattle.state_progress.proofs.Laws.Progress.{to-ends}
+use Rattle.state_progress.proofs.Laws.Progress.{to_ends}
 use Rattle.state_head.specs.Head.{Descends, HasRoom}
 use Rattle.state_head.proofs.Laws.Head.{loops, rooms, goes}
 use Rattle.state_head.proofs.head.descend.Statement.{statement}
@@ -25,6 +25,6 @@ descend-spec = tie.close (tie.spec invariant-loop decreases-loop
     (λ c κs. search rules)
     (λ c κs. search (rules, rooms, goes))
     (λ c. search rules)
-    (λ c. (search rules, search rules, search (rules, to-ends), search rules, search (rules, loops)))
+    (λ c. (search rules, search rules, search (rules, to_ends), search rules, search (rules, loops)))
     (λ c. search rules)
     (λ c. (search rules, (search rules, (search rules, (search (rules, loops), search rules))))))

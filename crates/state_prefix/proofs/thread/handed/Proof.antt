@@ -3,7 +3,7 @@ use borrow.Author.Rules.{rules}
 use Rattle.buffer.proofs.Laws.Buffer.{unchanged}
 use Rattle.state_progress.proofs.Laws.Progress.{to_end}
 use Rattle.state_prefix.proofs.Laws.Hand.{reaches, hands}
-use Rattle.state_prefix.proofs.Laws.Seek.{found-extends}
+use Rattle.state_prefix.proofs.Laws.Seek.{found_extends}
 use Rattle.state_prefix.proofs.thread.handed.Statement.{statement}
 use Rattle.state_prefix.proofs.thread.handed.Tie as tie
 
@@ -12,7 +12,7 @@ handed-spec = tie.close (tie.spec
     (λ c. search rules)
     (λ c κs. search rules)
     (λ c κs. search rules)
-    (λ c. (search (rules, found-extends), (search (rules, unchanged), (search (rules, unchanged), search (rules, hands)))))
+    (λ c. (search (rules, found_extends), (search (rules, unchanged), (search (rules, unchanged), search (rules, hands)))))
     (λ c κs. search rules)
     (λ c. search rules)
     (λ c κs. (search (rules, reaches), search (rules, reaches), search rules))
@@ -22,4 +22,4 @@ handed-spec = tie.close (tie.spec
     (λ c. search rules)
     (λ c. (search rules, (search (rules, to_end), (search rules, search (rules, hands)))))
     (λ c. search rules)
-    (λ c. (search (rules, found-extends), (search (rules, to_end), (search (rules, unchanged), search (rules, hands))))))
+    (λ c. (search (rules, found_extends), (search (rules, to_end), (search (rules, unchanged), search (rules, hands))))))

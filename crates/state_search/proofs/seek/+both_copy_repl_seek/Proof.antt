@@ -6,9 +6,9 @@ use borrow.Author.Rules.{rules}
 use borrow.Fn.Kinds.{In, ParamKind}
 use borrow.Fn.PlainCycle.{Measures, is, falls, and}
 use Rattle.buffer.proofs.Laws.Buffer.{unchanged}
-use Rattle.state_progress.proofs.Laws.Progress.{to-ends}
+use Rattle.state_progress.proofs.Laws.Progress.{to_ends}
 use Rattle.state_head.proofs.Laws.Head.{rooms}
-use Rattle.state_search.proofs.Laws.Seek.{heads-sought, pars-sought, copies-sought, repls-sought}
+use Rattle.state_search.proofs.Laws.Seek.{heads_sought, pars_sought, copies_sought, repls_sought}
 use Rattle.state_search.proofs.seek.both.Reads as both
 use Rattle.state_search.proofs.seek.both.Kinds as both-kinds
 use Rattle.state_search.proofs.seek.+both_copy_repl_seek.Lts-both as both-lts
@@ -100,10 +100,10 @@ both-seek-requires-2 : (t : ℕ) → both-lts.Need-seek-requires-2 (both-claims 
 both-seek-requires-2 t c κs = search rules
 
 both-returns : (t : ℕ) → both-lts.Need-returns (both-claims t) (at both-kinds.ps μ-both both.Pre t) both.Post
-both-returns t c = (search (rules, to-ends), (search (rules, to-ends), search (rules, pars-sought)))
+both-returns t c = (search (rules, to_ends), (search (rules, to_ends), search (rules, pars_sought)))
 
 both-returns-2 : (t : ℕ) → both-lts.Need-returns-2 (both-claims t) (at both-kinds.ps μ-both both.Pre t) both.Post
-both-returns-2 t c = (search (rules, to-ends), (search (rules, to-ends), search (rules, pars-sought)))
+both-returns-2 t c = (search (rules, to_ends), (search (rules, to_ends), search (rules, pars_sought)))
 
 copy-count-requires : (t : ℕ) → copy-lts.Need-count-requires (copy-claims t) (at copy-kinds.ps μ-copy copy.Pre t) copy.Post
 copy-count-requires t c κs = search rules
@@ -115,22 +115,22 @@ copy-named-requires : (t : ℕ) → copy-lts.Need-named-requires (copy-claims t)
 copy-named-requires t c κs = search rules
 
 copy-returns : (t : ℕ) → copy-lts.Need-returns (copy-claims t) (at copy-kinds.ps μ-copy copy.Pre t) copy.Post
-copy-returns t c = (search (rules, to-ends), (search (rules, to-ends), search (rules, copies-sought)))
+copy-returns t c = (search (rules, to_ends), (search (rules, to_ends), search (rules, copies_sought)))
 
 copy-returns-2 : (t : ℕ) → copy-lts.Need-returns-2 (copy-claims t) (at copy-kinds.ps μ-copy copy.Pre t) copy.Post
-copy-returns-2 t c = (search (rules, to-ends), (search (rules, unchanged), search (rules, copies-sought)))
+copy-returns-2 t c = (search (rules, to_ends), (search (rules, unchanged), search (rules, copies_sought)))
 
 repl-contains-requires : (t : ℕ) → repl-lts.Need-contains-requires (repl-claims t) (at repl-kinds.ps μ-repl repl.Pre t) repl.Post
 repl-contains-requires t c κs = search rules
 
 repl-returns : (t : ℕ) → repl-lts.Need-returns (repl-claims t) (at repl-kinds.ps μ-repl repl.Pre t) repl.Post
-repl-returns t c = (search (rules, unchanged), (search (rules, unchanged), search (rules, repls-sought)))
+repl-returns t c = (search (rules, unchanged), (search (rules, unchanged), search (rules, repls_sought)))
 
 repl-copy-requires : (t : ℕ) → repl-lts.Need-copy-requires (repl-claims t) (at repl-kinds.ps μ-repl repl.Pre t) repl.Post
 repl-copy-requires t c κs = search rules
 
 repl-returns-2 : (t : ℕ) → repl-lts.Need-returns-2 (repl-claims t) (at repl-kinds.ps μ-repl repl.Pre t) repl.Post
-repl-returns-2 t c = (search (rules, to-ends), (search (rules, to-ends), search (rules, repls-sought)))
+repl-returns-2 t c = (search (rules, to_ends), (search (rules, to_ends), search (rules, repls_sought)))
 
 seek-descend-requires : (t : ℕ) → seek-lts.Need-descend-requires (seek-claims t) (at seek-kinds.ps μ-seek seek.Pre t) seek.Post
 seek-descend-requires t c κs = search rules
@@ -142,28 +142,28 @@ seek-wide-requires : (t : ℕ) → seek-lts.Need-wide-requires (seek-claims t) (
 seek-wide-requires t c κs = search rules
 
 seek-returns : (t : ℕ) → seek-lts.Need-returns (seek-claims t) (at seek-kinds.ps μ-seek seek.Pre t) seek.Post
-seek-returns t c = (search (rules, to-ends), (search (rules, unchanged), search (rules, heads-sought)))
+seek-returns t c = (search (rules, to_ends), (search (rules, unchanged), search (rules, heads_sought)))
 
 seek-both-requires : (t : ℕ) → seek-lts.Need-both-requires (seek-claims t) (at seek-kinds.ps μ-seek seek.Pre t) seek.Post
 seek-both-requires t c κs = (search rules, (search (rules, rooms), search (rules, rooms), search (rules, rooms), search rules))
 
 seek-returns-2 : (t : ℕ) → seek-lts.Need-returns-2 (seek-claims t) (at seek-kinds.ps μ-seek seek.Pre t) seek.Post
-seek-returns-2 t c = (search (rules, to-ends), (search (rules, to-ends), search (rules, heads-sought)))
+seek-returns-2 t c = (search (rules, to_ends), (search (rules, to_ends), search (rules, heads_sought)))
 
 seek-repl-requires : (t : ℕ) → seek-lts.Need-repl-requires (seek-claims t) (at seek-kinds.ps μ-seek seek.Pre t) seek.Post
 seek-repl-requires t c κs = (search rules, (search (rules, rooms), search (rules, rooms), search (rules, rooms), search rules))
 
 seek-returns-3 : (t : ℕ) → seek-lts.Need-returns-3 (seek-claims t) (at seek-kinds.ps μ-seek seek.Pre t) seek.Post
-seek-returns-3 t c = (search (rules, to-ends), (search (rules, to-ends), search (rules, heads-sought)))
+seek-returns-3 t c = (search (rules, to_ends), (search (rules, to_ends), search (rules, heads_sought)))
 
 seek-own-requires : (t : ℕ) → seek-lts.Need-own-requires (seek-claims t) (at seek-kinds.ps μ-seek seek.Pre t) seek.Post
 seek-own-requires t c κs = (search (rules, rooms), search (rules, rooms), search rules)
 
 seek-returns-4 : (t : ℕ) → seek-lts.Need-returns-4 (seek-claims t) (at seek-kinds.ps μ-seek seek.Pre t) seek.Post
-seek-returns-4 t c = (search (rules, to-ends), (search (rules, to-ends), search (rules, heads-sought)))
+seek-returns-4 t c = (search (rules, to_ends), (search (rules, to_ends), search (rules, heads_sought)))
 
 seek-returns-5 : (t : ℕ) → seek-lts.Need-returns-5 (seek-claims t) (at seek-kinds.ps μ-seek seek.Pre t) seek.Post
-seek-returns-5 t c = (search (rules, to-ends), (search (rules, unchanged), search (rules, heads-sought)))
+seek-returns-5 t c = (search (rules, to_ends), (search (rules, unchanged), search (rules, heads_sought)))
 
 pub +both-copy-repl-seek-spec : {M : Type 1} → statement M
 +both-copy-repl-seek-spec =

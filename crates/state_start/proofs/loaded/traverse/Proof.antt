@@ -1,7 +1,7 @@
 -- `state_start::loaded::traverse` meets its contract.
 use borrow.Author.Rules.{rules}
-use Rattle.state_layout.proofs.Laws.Loaded.{thread-traversals}
-use Rattle.state_progress.proofs.Laws.Progress.{to-ends}
+use Rattle.state_layout.proofs.Laws.Loaded.{thread_traversals}
+use Rattle.state_progress.proofs.Laws.Progress.{to_ends}
 use Rattle.state_start.proofs.loaded.traverse.Statement.{statement}
 use Rattle.state_start.proofs.loaded.traverse.Tie as tie
 
@@ -12,8 +12,8 @@ traverse-spec = tie.close (tie.spec
     (λ c κs. search rules)
     (λ c. search rules)
     (λ c. search rules)
-    (λ c. (search rules, (search (rules, to-ends), (search rules, search (rules, thread-traversals)))))
+    (λ c. (search rules, (search (rules, to_ends), (search rules, search (rules, thread_traversals)))))
     (λ c κs. search rules)
     (λ c. search rules)
     (λ c. search rules)
-    (λ c. (search rules, (search (rules, to-ends), (search rules, search (rules, thread-traversals))))))
+    (λ c. (search rules, (search (rules, to_ends), (search rules, search (rules, thread_traversals))))))

@@ -6,11 +6,11 @@ use borrow.Author.Rules.{rules}
 use borrow.Fn.Kinds.{In, ParamKind}
 use borrow.Fn.PlainCycle.{Measures, is, falls, and}
 use Rattle.buffer.proofs.Laws.Buffer.{unchanged}
-use Rattle.state_progress.proofs.Laws.Progress.{extensions, to-ends, to-end-bound, records-ends}
+use Rattle.state_progress.proofs.Laws.Progress.{extensions, to_ends, to_end_bound, records_ends}
 use Rattle.state_head.proofs.Laws.Head.{rooms}
-use Rattle.state_head.proofs.Laws.Traverse.{traverses, nodes, par-traversed}
-use Rattle.state_head.proofs.Laws.Copy.{names-back, copies}
-use Rattle.state_head.proofs.Laws.Prefix.{prefixes, followed, receipts, locatedOffers}
+use Rattle.state_head.proofs.Laws.Traverse.{traverses, nodes, par_traversed}
+use Rattle.state_head.proofs.Laws.Copy.{names_back, copies}
+use Rattle.state_head.proofs.Laws.Prefix.{prefixes, followed, receipts, located_offers}
 use Rattle.state_traversal.proofs.Laws.Repl.{opens, pairs, performances, repls}
 use Rattle.state_traversal.proofs.traverse.act.Reads as act
 use Rattle.state_traversal.proofs.traverse.act.Kinds as act-kinds
@@ -252,19 +252,19 @@ act-follow-requires : (t : ℕ) → act-lts.Need-follow-requires (act-claims t) 
 act-follow-requires t c κs = search rules
 
 act-returns : (t : ℕ) → act-lts.Need-returns (act-claims t) (at act-kinds.ps μ-act act.Pre t) act.Post
-act-returns t c = ((search (rules, extensions), search (rules, to-ends), search (rules, records-ends)), search (rules, locatedOffers))
+act-returns t c = ((search (rules, extensions), search (rules, to_ends), search (rules, records_ends)), search (rules, located_offers))
 
 act-receive-requires : (t : ℕ) → act-lts.Need-receive-requires (act-claims t) (at act-kinds.ps μ-act act.Pre t) act.Post
 act-receive-requires t c κs = search rules
 
 act-returns-2 : (t : ℕ) → act-lts.Need-returns-2 (act-claims t) (at act-kinds.ps μ-act act.Pre t) act.Post
-act-returns-2 t c = ((search (rules, extensions), search (rules, to-ends), search (rules, records-ends)), search (rules, locatedOffers))
+act-returns-2 t c = ((search (rules, extensions), search (rules, to_ends), search (rules, records_ends)), search (rules, located_offers))
 
 act-push-requires : (t : ℕ) → act-lts.Need-push-requires (act-claims t) (at act-kinds.ps μ-act act.Pre t) act.Post
 act-push-requires t c κs = search rules
 
 act-returns-3 : (t : ℕ) → act-lts.Need-returns-3 (act-claims t) (at act-kinds.ps μ-act act.Pre t) act.Post
-act-returns-3 t c = ((search (rules, extensions), search (rules, unchanged, to-ends), search (rules, records-ends)), search (rules, locatedOffers))
+act-returns-3 t c = ((search (rules, extensions), search (rules, unchanged, to_ends), search (rules, records_ends)), search (rules, located_offers))
 
 both-traverse-requires : (t : ℕ) → both-lts.Need-traverse-requires (both-claims t) (at both-kinds.ps μ-both both.Pre t) both.Post
 both-traverse-requires t c κs = search rules
@@ -276,7 +276,7 @@ both-traverse-requires-2 : (t : ℕ) → both-lts.Need-traverse-requires-2 (both
 both-traverse-requires-2 t c κs = search rules
 
 both-returns : (t : ℕ) → both-lts.Need-returns (both-claims t) (at both-kinds.ps μ-both both.Pre t) both.Post
-both-returns t c = ((search (rules, extensions), search (rules, to-ends), search (rules, records-ends)), search (rules, par-traversed))
+both-returns t c = ((search (rules, extensions), search (rules, to_ends), search (rules, records_ends)), search (rules, par_traversed))
 
 copy-count-requires : (t : ℕ) → copy-lts.Need-count-requires (copy-claims t) (at copy-kinds.ps μ-copy copy.Pre t) copy.Post
 copy-count-requires t c κs = search rules
@@ -294,10 +294,10 @@ copy-stop-requires : (t : ℕ) → copy-lts.Need-stop-requires (copy-claims t) (
 copy-stop-requires t c κs = search rules
 
 copy-returns : (t : ℕ) → copy-lts.Need-returns (copy-claims t) (at copy-kinds.ps μ-copy copy.Pre t) copy.Post
-copy-returns t c = ((search (rules, extensions), search (rules, to-ends), search (rules, records-ends)), search (rules, copies))
+copy-returns t c = ((search (rules, extensions), search (rules, to_ends), search (rules, records_ends)), search (rules, copies))
 
 copy-returns-2 : (t : ℕ) → copy-lts.Need-returns-2 (copy-claims t) (at copy-kinds.ps μ-copy copy.Pre t) copy.Post
-copy-returns-2 t c = ((search (rules, extensions), search (rules, to-ends), search (rules, unchanged, records-ends)), search (rules, copies))
+copy-returns-2 t c = ((search (rules, extensions), search (rules, to_ends), search (rules, unchanged, records_ends)), search (rules, copies))
 
 enter-copy-requires : (t : ℕ) → enter-lts.Need-copy-requires (enter-claims t) (at enter-kinds.ps μ-enter enter.Pre t) enter.Post
 enter-copy-requires t c κs = search rules
@@ -309,16 +309,16 @@ enter-inside-requires : (t : ℕ) → enter-lts.Need-inside-requires (enter-clai
 enter-inside-requires t c κs = search rules
 
 enter-returns : (t : ℕ) → enter-lts.Need-returns (enter-claims t) (at enter-kinds.ps μ-enter enter.Pre t) enter.Post
-enter-returns t c = ((search (rules, extensions), search (rules, unchanged, to-ends), search (rules, unchanged, records-ends)), search (rules, opens))
+enter-returns t c = ((search (rules, extensions), search (rules, unchanged, to_ends), search (rules, unchanged, records_ends)), search (rules, opens))
 
 enter-returns-2 : (t : ℕ) → enter-lts.Need-returns-2 (enter-claims t) (at enter-kinds.ps μ-enter enter.Pre t) enter.Post
-enter-returns-2 t c = ((search (rules, extensions), search (rules, to-ends), search (rules, records-ends)), search (rules, opens))
+enter-returns-2 t c = ((search (rules, extensions), search (rules, to_ends), search (rules, records_ends)), search (rules, opens))
 
 enter-returns-3 : (t : ℕ) → enter-lts.Need-returns-3 (enter-claims t) (at enter-kinds.ps μ-enter enter.Pre t) enter.Post
-enter-returns-3 t c = ((search (rules, extensions), search (rules, to-ends), search (rules, records-ends)), search (rules, opens))
+enter-returns-3 t c = ((search (rules, extensions), search (rules, to_ends), search (rules, records_ends)), search (rules, opens))
 
 enter-returns-4 : (t : ℕ) → enter-lts.Need-returns-4 (enter-claims t) (at enter-kinds.ps μ-enter enter.Pre t) enter.Post
-enter-returns-4 t c = ((search (rules, extensions), search (rules, unchanged, to-ends), search (rules, unchanged, records-ends)), search (rules, opens))
+enter-returns-4 t c = ((search (rules, extensions), search (rules, unchanged, to_ends), search (rules, unchanged, records_ends)), search (rules, opens))
 
 follow-rest-requires : (t : ℕ) → follow-lts.Need-rest-requires (follow-claims t) (at follow-kinds.ps μ-follow follow.Pre t) follow.Post
 follow-rest-requires t c κs = search rules
@@ -330,7 +330,7 @@ follow-inside-requires : (t : ℕ) → follow-lts.Need-inside-requires (follow-c
 follow-inside-requires t c κs = search rules
 
 follow-returns : (t : ℕ) → follow-lts.Need-returns (follow-claims t) (at follow-kinds.ps μ-follow follow.Pre t) follow.Post
-follow-returns t c = ((search (rules, extensions), search (rules, to-ends), search (rules, records-ends)), search (rules, followed))
+follow-returns t c = ((search (rules, extensions), search (rules, to_ends), search (rules, records_ends)), search (rules, followed))
 
 inside-traverse-requires : (t : ℕ) → inside-lts.Need-traverse-requires (inside-claims t) (at inside-kinds.ps μ-inside inside.Pre t) inside.Post
 inside-traverse-requires t c κs = search rules
@@ -339,7 +339,7 @@ inside-named-requires : (t : ℕ) → inside-lts.Need-named-requires (inside-cla
 inside-named-requires t c κs = search rules
 
 inside-returns : (t : ℕ) → inside-lts.Need-returns (inside-claims t) (at inside-kinds.ps μ-inside inside.Pre t) inside.Post
-inside-returns t c = ((search (rules, extensions), search (rules, to-ends), search (rules, records-ends)), search (rules, names-back))
+inside-returns t c = ((search (rules, extensions), search (rules, to_ends), search (rules, records_ends)), search (rules, names_back))
 
 node-named-requires : (t : ℕ) → node-lts.Need-named-requires (node-claims t) (at node-kinds.ps μ-node node.Pre t) node.Post
 node-named-requires t c κs = search rules
@@ -348,25 +348,25 @@ node-wide-requires : (t : ℕ) → node-lts.Need-wide-requires (node-claims t) (
 node-wide-requires t c κs = search rules
 
 node-returns : (t : ℕ) → node-lts.Need-returns (node-claims t) (at node-kinds.ps μ-node node.Pre t) node.Post
-node-returns t c = ((search (rules, extensions), search (rules, unchanged, to-ends), search (rules, unchanged, records-ends)), search (rules, nodes))
+node-returns t c = ((search (rules, extensions), search (rules, unchanged, to_ends), search (rules, unchanged, records_ends)), search (rules, nodes))
 
 node-both-requires : (t : ℕ) → node-lts.Need-both-requires (node-claims t) (at node-kinds.ps μ-node node.Pre t) node.Post
 node-both-requires t c κs = search rules
 
 node-returns-2 : (t : ℕ) → node-lts.Need-returns-2 (node-claims t) (at node-kinds.ps μ-node node.Pre t) node.Post
-node-returns-2 t c = ((search (rules, extensions), search (rules, to-ends), search (rules, records-ends)), search (rules, nodes))
+node-returns-2 t c = ((search (rules, extensions), search (rules, to_ends), search (rules, records_ends)), search (rules, nodes))
 
 node-repl-requires : (t : ℕ) → node-lts.Need-repl-requires (node-claims t) (at node-kinds.ps μ-node node.Pre t) node.Post
 node-repl-requires t c κs = search rules
 
 node-returns-3 : (t : ℕ) → node-lts.Need-returns-3 (node-claims t) (at node-kinds.ps μ-node node.Pre t) node.Post
-node-returns-3 t c = ((search (rules, extensions), search (rules, to-ends), search (rules, records-ends)), search (rules, nodes))
+node-returns-3 t c = ((search (rules, extensions), search (rules, to_ends), search (rules, records_ends)), search (rules, nodes))
 
 node-prefix-requires : (t : ℕ) → node-lts.Need-prefix-requires (node-claims t) (at node-kinds.ps μ-node node.Pre t) node.Post
 node-prefix-requires t c κs = search rules
 
 node-returns-4 : (t : ℕ) → node-lts.Need-returns-4 (node-claims t) (at node-kinds.ps μ-node node.Pre t) node.Post
-node-returns-4 t c = ((search (rules, extensions), search (rules, to-ends), search (rules, records-ends)), search (rules, nodes))
+node-returns-4 t c = ((search (rules, extensions), search (rules, to_ends), search (rules, records_ends)), search (rules, nodes))
 
 pair-enter-requires : (t : ℕ) → pair-lts.Need-enter-requires (pair-claims t) (at pair-kinds.ps μ-pair pair.Pre t) pair.Post
 pair-enter-requires t c κs = search rules
@@ -375,7 +375,7 @@ pair-enter-requires-2 : (t : ℕ) → pair-lts.Need-enter-requires-2 (pair-claim
 pair-enter-requires-2 t c κs = search rules
 
 pair-returns : (t : ℕ) → pair-lts.Need-returns (pair-claims t) (at pair-kinds.ps μ-pair pair.Pre t) pair.Post
-pair-returns t c = ((search (rules, extensions), search (rules, to-ends), search (rules, records-ends)), search (rules, pairs))
+pair-returns t c = ((search (rules, extensions), search (rules, to_ends), search (rules, records_ends)), search (rules, pairs))
 
 perform-pair-requires : (t : ℕ) → perform-lts.Need-pair-requires (perform-claims t) (at perform-kinds.ps μ-perform perform.Pre t) perform.Post
 perform-pair-requires t c κs = search rules
@@ -384,7 +384,7 @@ perform-finish-requires : (t : ℕ) → perform-lts.Need-finish-requires (perfor
 perform-finish-requires t c κs = search rules
 
 perform-returns : (t : ℕ) → perform-lts.Need-returns (perform-claims t) (at perform-kinds.ps μ-perform perform.Pre t) perform.Post
-perform-returns t c = ((search (rules, extensions), search (rules, to-ends), search (rules, records-ends)), search (rules, performances))
+perform-returns t c = ((search (rules, extensions), search (rules, to_ends), search (rules, records_ends)), search (rules, performances))
 
 prefix-offer-requires : (t : ℕ) → prefix-lts.Need-offer-requires (prefix-claims t) (at prefix-kinds.ps μ-prefix prefix.Pre t) prefix.Post
 prefix-offer-requires t c κs = search rules
@@ -402,34 +402,34 @@ prefix-push-requires : (t : ℕ) → prefix-lts.Need-push-requires (prefix-claim
 prefix-push-requires t c κs = search rules
 
 prefix-returns : (t : ℕ) → prefix-lts.Need-returns (prefix-claims t) (at prefix-kinds.ps μ-prefix prefix.Pre t) prefix.Post
-prefix-returns t c = ((search (rules, extensions), search (rules, unchanged, to-ends), search (rules, unchanged, records-ends)), search (rules, prefixes))
+prefix-returns t c = ((search (rules, extensions), search (rules, unchanged, to_ends), search (rules, unchanged, records_ends)), search (rules, prefixes))
 
 prefix-returns-2 : (t : ℕ) → prefix-lts.Need-returns-2 (prefix-claims t) (at prefix-kinds.ps μ-prefix prefix.Pre t) prefix.Post
-prefix-returns-2 t c = ((search (rules, extensions), search (rules, to-ends), search (rules, unchanged, records-ends)), search (rules, prefixes))
+prefix-returns-2 t c = ((search (rules, extensions), search (rules, to_ends), search (rules, unchanged, records_ends)), search (rules, prefixes))
 
 prefix-returns-3 : (t : ℕ) → prefix-lts.Need-returns-3 (prefix-claims t) (at prefix-kinds.ps μ-prefix prefix.Pre t) prefix.Post
-prefix-returns-3 t c = ((search (rules, extensions), search (rules, to-ends), search (rules, records-ends)), search (rules, prefixes))
+prefix-returns-3 t c = ((search (rules, extensions), search (rules, to_ends), search (rules, records_ends)), search (rules, prefixes))
 
 prefix-returns-4 : (t : ℕ) → prefix-lts.Need-returns-4 (prefix-claims t) (at prefix-kinds.ps μ-prefix prefix.Pre t) prefix.Post
-prefix-returns-4 t c = ((search (rules, extensions), search (rules, to-ends), search (rules, records-ends)), search (rules, prefixes))
+prefix-returns-4 t c = ((search (rules, extensions), search (rules, to_ends), search (rules, records_ends)), search (rules, prefixes))
 
 prefix-returns-5 : (t : ℕ) → prefix-lts.Need-returns-5 (prefix-claims t) (at prefix-kinds.ps μ-prefix prefix.Pre t) prefix.Post
-prefix-returns-5 t c = ((search (rules, extensions), search (rules, unchanged, to-ends), search (rules, unchanged, records-ends)), search (rules, prefixes))
+prefix-returns-5 t c = ((search (rules, extensions), search (rules, unchanged, to_ends), search (rules, unchanged, records_ends)), search (rules, prefixes))
 
 prefix-returns-6 : (t : ℕ) → prefix-lts.Need-returns-6 (prefix-claims t) (at prefix-kinds.ps μ-prefix prefix.Pre t) prefix.Post
-prefix-returns-6 t c = ((search (rules, extensions), search (rules, unchanged, to-ends), search (rules, unchanged, records-ends)), search (rules, prefixes))
+prefix-returns-6 t c = ((search (rules, extensions), search (rules, unchanged, to_ends), search (rules, unchanged, records_ends)), search (rules, prefixes))
 
 prefix-returns-7 : (t : ℕ) → prefix-lts.Need-returns-7 (prefix-claims t) (at prefix-kinds.ps μ-prefix prefix.Pre t) prefix.Post
-prefix-returns-7 t c = ((search (rules, extensions), search (rules, to-ends), search (rules, records-ends)), search (rules, prefixes))
+prefix-returns-7 t c = ((search (rules, extensions), search (rules, to_ends), search (rules, records_ends)), search (rules, prefixes))
 
 prefix-returns-8 : (t : ℕ) → prefix-lts.Need-returns-8 (prefix-claims t) (at prefix-kinds.ps μ-prefix prefix.Pre t) prefix.Post
-prefix-returns-8 t c = ((search (rules, extensions), search (rules, unchanged, to-ends), search (rules, records-ends)), search (rules, prefixes))
+prefix-returns-8 t c = ((search (rules, extensions), search (rules, unchanged, to_ends), search (rules, records_ends)), search (rules, prefixes))
 
 receive-stop-requires : (t : ℕ) → receive-lts.Need-stop-requires (receive-claims t) (at receive-kinds.ps μ-receive receive.Pre t) receive.Post
 receive-stop-requires t c κs = search rules
 
 receive-returns : (t : ℕ) → receive-lts.Need-returns (receive-claims t) (at receive-kinds.ps μ-receive receive.Pre t) receive.Post
-receive-returns t c = ((search (rules, extensions), search (rules, unchanged, to-ends), search (rules, unchanged, records-ends)), search (rules, receipts))
+receive-returns t c = ((search (rules, extensions), search (rules, unchanged, to_ends), search (rules, unchanged, records_ends)), search (rules, receipts))
 
 receive-message-requires : (t : ℕ) → receive-lts.Need-message-requires (receive-claims t) (at receive-kinds.ps μ-receive receive.Pre t) receive.Post
 receive-message-requires t c κs = search rules
@@ -438,7 +438,7 @@ receive-follow-requires : (t : ℕ) → receive-lts.Need-follow-requires (receiv
 receive-follow-requires t c κs = search rules
 
 receive-returns-2 : (t : ℕ) → receive-lts.Need-returns-2 (receive-claims t) (at receive-kinds.ps μ-receive receive.Pre t) receive.Post
-receive-returns-2 t c = ((search (rules, extensions), search (rules, to-end-bound), search (rules, records-ends)), search (rules, receipts))
+receive-returns-2 t c = ((search (rules, extensions), search (rules, to_end_bound), search (rules, records_ends)), search (rules, receipts))
 
 repl-needed-requires : (t : ℕ) → repl-lts.Need-needed-requires (repl-claims t) (at repl-kinds.ps μ-repl repl.Pre t) repl.Post
 repl-needed-requires t c κs = search rules
@@ -450,10 +450,10 @@ repl-perform-requires : (t : ℕ) → repl-lts.Need-perform-requires (repl-claim
 repl-perform-requires t c κs = search rules
 
 repl-returns : (t : ℕ) → repl-lts.Need-returns (repl-claims t) (at repl-kinds.ps μ-repl repl.Pre t) repl.Post
-repl-returns t c = ((search (rules, extensions), search (rules, to-ends), search (rules, records-ends)), search (rules, repls))
+repl-returns t c = ((search (rules, extensions), search (rules, to_ends), search (rules, records_ends)), search (rules, repls))
 
 traverse-returns : (t : ℕ) → traverse-lts.Need-returns (traverse-claims t) (at traverse-kinds.ps μ-traverse traverse.Pre t) traverse.Post
-traverse-returns t c = (search (rules, extensions), (search (rules, unchanged, to-ends), (search (rules, unchanged, records-ends), search (rules, traverses))))
+traverse-returns t c = (search (rules, extensions), (search (rules, unchanged, to_ends), (search (rules, unchanged, records_ends), search (rules, traverses))))
 
 traverse-descend-requires : (t : ℕ) → traverse-lts.Need-descend-requires (traverse-claims t) (at traverse-kinds.ps μ-traverse traverse.Pre t) traverse.Post
 traverse-descend-requires t c κs = search rules
@@ -462,13 +462,13 @@ traverse-node-requires : (t : ℕ) → traverse-lts.Need-node-requires (traverse
 traverse-node-requires t c κs = search (rules, rooms)
 
 traverse-returns-2 : (t : ℕ) → traverse-lts.Need-returns-2 (traverse-claims t) (at traverse-kinds.ps μ-traverse traverse.Pre t) traverse.Post
-traverse-returns-2 t c = (search (rules, extensions), (search (rules, to-ends), (search (rules, records-ends), search (rules, traverses))))
+traverse-returns-2 t c = (search (rules, extensions), (search (rules, to_ends), (search (rules, records_ends), search (rules, traverses))))
 
 traverse-stop-requires : (t : ℕ) → traverse-lts.Need-stop-requires (traverse-claims t) (at traverse-kinds.ps μ-traverse traverse.Pre t) traverse.Post
 traverse-stop-requires t c κs = search rules
 
 traverse-returns-3 : (t : ℕ) → traverse-lts.Need-returns-3 (traverse-claims t) (at traverse-kinds.ps μ-traverse traverse.Pre t) traverse.Post
-traverse-returns-3 t c = (search (rules, extensions), (search (rules, to-ends), (search (rules, unchanged, records-ends), search (rules, traverses))))
+traverse-returns-3 t c = (search (rules, extensions), (search (rules, to_ends), (search (rules, unchanged, records_ends), search (rules, traverses))))
 
 pub +act-both-copy-enter-follow-inside-node-pair-perform-prefix-receive-repl-traverse-spec :
     {M : Type 1} → statement M

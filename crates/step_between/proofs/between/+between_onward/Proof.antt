@@ -4,8 +4,8 @@ use Prim.Native.Nat.{ℕ, ◌+◌, ◌-◌, ◌*◌, ◌<◌}
 use borrow.Author.Rules.{rules}
 use borrow.Fn.Kinds.{In}
 use borrow.Fn.PlainCycle.{Measures, is, falls, and}
-use Rattle.state_progress.proofs.Laws.Progress.{to-ends}
-use Rattle.step_between.proofs.Laws.BetweenOnward.{betweens, onward-found, onward-none, ahead-falls}
+use Rattle.state_progress.proofs.Laws.Progress.{to_ends}
+use Rattle.step_between.proofs.Laws.BetweenOnward.{betweens, onward_found, onward_none, ahead_falls}
 use Rattle.step_between.proofs.between.between.Reads as between
 use Rattle.step_between.proofs.between.between.Kinds as between-kinds
 use Rattle.step_between.proofs.between.+between_onward.Lts-between as between-lts
@@ -50,15 +50,15 @@ pub +between-onward-spec : {M : Type 1} → statement M
     (λ c κs.
     let checked = c.before.before.before.before.before in
     let start = checked.before.before.before.before.before.before.before.before.before.before.before.before.before in
-    (ahead-falls checked.follows.ensures c.before.before.before.before.if1.true start.requires.1.0 start.requires.0, search rules))
+    (ahead_falls checked.follows.ensures c.before.before.before.before.if1.true start.requires.1.0 start.requires.0, search rules))
     (λ c. search rules)
     (λ c. search rules)
     (λ c. search rules)
     (λ c. search rules)
-    (λ c. (search (rules, to-ends), (search (rules, to-ends), (search rules, (search rules, search (rules, betweens))))))
+    (λ c. (search (rules, to_ends), (search (rules, to_ends), (search rules, (search rules, search (rules, betweens))))))
     (λ c. search rules)
     (λ c. search rules)
-    (λ c. (search (rules, to-ends), (search (rules, to-ends), (search rules, (search rules, search (rules, betweens)))))))
+    (λ c. (search (rules, to_ends), (search (rules, to_ends), (search rules, (search rules, search (rules, betweens)))))))
     λ t. onward-lts.spec (
       Pair-reads.Asked,
       Pair-reads.Learnt,
@@ -75,8 +75,8 @@ pub +between-onward-spec : {M : Type 1} → statement M
     (λ c. search rules)
     (λ c.
     let paired = c.before.before.before.before.before.before.before.before.before.before.before.pair.ensures in (
-      search (rules, to-ends),
-      (search (rules, to-ends), (search rules, (search rules, onward-found paired.1.1.1.1 c.before.step.given.1))),
+      search (rules, to_ends),
+      (search (rules, to_ends), (search rules, (search rules, onward_found paired.1.1.1.1 c.before.step.given.1))),
     ))
     (λ c. search rules)
     (λ c. search rules)
@@ -86,14 +86,14 @@ pub +between-onward-spec : {M : Type 1} → statement M
     let later = c.before.before.before.before.before.before.before.before.between.ensures in
     let asked = c.before.before.before.before.before.before.before.before.before.before.before.before.before in
     let paired = asked.before.before.before.before.before.before.before.before.before.before.pair.ensures in (
-      search (rules, to-ends),
+      search (rules, to_ends),
       (
-        search (rules, to-ends),
+        search (rules, to_ends),
         (
           search rules,
           (
             search rules,
-            onward-none paired.1.1.1.1 asked.enum_told.given.1 paired.0 paired.1.0 paired.1.1.0 paired.1.1.1.0
+            onward_none paired.1.1.1.1 asked.enum_told.given.1 paired.0 paired.1.0 paired.1.1.0 paired.1.1.1.0
                 later.1.1.1.1,
           ),
         ),

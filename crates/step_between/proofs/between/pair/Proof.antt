@@ -1,6 +1,6 @@
 -- `step_between::between::pair` meets its contract.
 use borrow.Author.Rules.{rules}
-use Rattle.state_progress.proofs.Laws.Progress.{to-ends}
+use Rattle.state_progress.proofs.Laws.Progress.{to_ends}
 use Rattle.step_between.proofs.Laws.BetweenOnward.{pairs}
 use Rattle.step_between.proofs.between.pair.Statement.{statement}
 use Rattle.step_between.proofs.between.pair.Tie as tie
@@ -19,6 +19,6 @@ pair_spec = tie.close (tie.spec
     (λ c.
     let taken = c.before.before.before.before in
     let handed = taken.before.before.before.before.before.before.before.before.before.hand.ensures in (
-      search (rules, to-ends),
-      (search (rules, to-ends), (search rules, (search rules, pairs handed.1.1.1 handed.0 handed.1.0 taken.take.ensures.1.1))),
+      search (rules, to_ends),
+      (search (rules, to_ends), (search rules, (search rules, pairs handed.1.1.1 handed.0 handed.1.0 taken.take.ensures.1.1))),
     )))

@@ -1,7 +1,7 @@
 -- `step_between::between::sender` meets its contract.
 use borrow.Author.Rules.{rules}
 use Rattle.step_between.proofs.Laws.Between.{sends}
-use Rattle.state_progress.proofs.Laws.Progress.{to-ends}
+use Rattle.state_progress.proofs.Laws.Progress.{to_ends}
 use Rattle.step_between.proofs.between.sender.Statement.{statement}
 use Rattle.step_between.proofs.between.sender.Tie as tie
 
@@ -13,4 +13,4 @@ sender-spec = tie.close (tie.spec
     (λ c κs. search rules)
     (λ c. search rules)
     (λ c. search rules)
-    (λ c. (search (rules, to-ends), (search (rules, to-ends), search (rules, sends)))))
+    (λ c. (search (rules, to_ends), (search (rules, to_ends), search (rules, sends)))))

@@ -3,8 +3,8 @@
 use Prim.Native.Nat.{ℕ, ◌+◌, ◌*◌, ◌-◌, ◌<◌}
 use borrow.Author.Rules.{rules}
 use Rattle.buffer.proofs.Laws.Buffer.{unchanged}
-use Rattle.state_progress.proofs.Laws.Progress.{to-ends}
-use Rattle.step_copies.proofs.Laws.CopyStep.{joinings, joins-passed, passings}
+use Rattle.state_progress.proofs.Laws.Progress.{to_ends}
+use Rattle.step_copies.proofs.Laws.CopyStep.{joinings, joins_passed, passings}
 use borrow.Fn.Kinds.{In}
 use borrow.Fn.PlainCycle.{Measures, is, falls, and}
 use Rattle.step_copies.proofs.copy_step.begin.Reads as begin
@@ -70,12 +70,12 @@ pub +begin-copy-step-pass-spec : {M : Type 1} → statement M
     (λ c. search rules)
     (λ c. search rules)
     (λ c. search rules)
-    (λ c. (search (rules, to-ends), (search (rules, to-ends), (search rules, search (rules, passings)))))
+    (λ c. (search (rules, to_ends), (search (rules, to_ends), (search rules, search (rules, passings)))))
     (λ c κs. search rules)
     (λ c. search rules)
     (λ c. search rules)
     (λ c. search rules)
-    (λ c. (search (rules, to-ends), (search (rules, to-ends), (search rules, search rules)))))
+    (λ c. (search (rules, to_ends), (search (rules, to_ends), (search rules, search rules)))))
     (λ t. copy-step-lts.spec (begin-below t, begin.Post, meet-reads.Asked, meet-reads.Learnt, pass_below t, pass.Post) (copy-step-at t) copy_step.Post
     (λ c. (search (rules, unchanged), (search (rules, unchanged), (search rules, search (rules, joinings)))))
     (λ c. search rules)
@@ -86,7 +86,7 @@ pub +begin-copy-step-pass-spec : {M : Type 1} → statement M
     (λ c. search rules)
     (λ c. search rules)
     (λ c. search rules)
-    (λ c. (search (rules, to-ends), (search (rules, to-ends), (search rules, search (rules, joinings)))))
+    (λ c. (search (rules, to_ends), (search (rules, to_ends), (search rules, search (rules, joinings)))))
     (λ c κs. search rules)
     (λ c. search rules)
     (λ c. search rules)
@@ -95,7 +95,7 @@ pub +begin-copy-step-pass-spec : {M : Type 1} → statement M
     (λ c. search rules)
     (λ c. search rules)
     (λ c. search rules)
-    (λ c. (search (rules, to-ends), (search (rules, to-ends), (search rules, search (rules, joinings)))))
+    (λ c. (search (rules, to_ends), (search (rules, to_ends), (search rules, search (rules, joinings)))))
     (λ c. search rules)
     (λ c. search rules)
     (λ c. search rules)
@@ -103,12 +103,12 @@ pub +begin-copy-step-pass-spec : {M : Type 1} → statement M
     let passed = c.before.before.before.before.before.before in
     let met = passed.before.before.before.before.before.before.before.before.before.before.before.before in
     let tests = met.before.before.before.before.before in (
-      search (rules, to-ends),
+      search (rules, to_ends),
       (
-        search (rules, to-ends),
+        search (rules, to_ends),
         (
           search rules,
-          joins-passed tests.before.if2.false tests.if3.false met.meet.ensures.1.1.1 (search rules) met.meet.ensures.0
+          joins_passed tests.before.if2.false tests.if3.false met.meet.ensures.1.1.1 (search rules) met.meet.ensures.0
               met.meet.ensures.1.0 met.meet.ensures.1.1.0 passed.pass.ensures.1.1.1,
         ),
       ),
@@ -125,7 +125,7 @@ pub +begin-copy-step-pass-spec : {M : Type 1} → statement M
     (λ c. search rules)
     (λ c. search rules)
     (λ c. search rules)
-    (λ c. (search (rules, to-ends), (search (rules, to-ends), (search rules, search (rules, passings)))))
+    (λ c. (search (rules, to_ends), (search (rules, to_ends), (search rules, search (rules, passings)))))
     (λ c. search rules)
     (λ c. search rules)
     (λ c κs. search rules)
@@ -135,9 +135,9 @@ pub +begin-copy-step-pass-spec : {M : Type 1} → statement M
     (λ c. search rules)
     (λ c. search rules)
     (λ c. search rules)
-    (λ c. (search (rules, to-ends), (search (rules, to-ends), (search rules, search (rules, passings)))))
+    (λ c. (search (rules, to_ends), (search (rules, to_ends), (search rules, search (rules, passings)))))
     (λ c κs. search rules)
     (λ c. search rules)
     (λ c. search rules)
     (λ c. search rules)
-    (λ c. (search (rules, to-ends), (search (rules, to-ends), (search rules, search (rules, passings)))))
+    (λ c. (search (rules, to_ends), (search (rules, to_ends), (search rules, search (rules, passings)))))

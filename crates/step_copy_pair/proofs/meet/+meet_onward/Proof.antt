@@ -3,7 +3,7 @@ use Prim.Native.Nat.{ℕ, ◌+◌, ◌*◌, ◌-◌, ◌<◌}
 use borrow.Author.Rules.{rules}
 use borrow.Fn.Kinds.{In}
 use borrow.Fn.PlainCycle.{Measures, is, falls, and}
-use Rattle.state_progress.proofs.Laws.Progress.{to-ends}
+use Rattle.state_progress.proofs.Laws.Progress.{to_ends}
 use Rattle.step_copy_pair.proofs.Laws.Meet.{onwards, meetings}
 use Rattle.step_copy_pair.proofs.meet.meet.Reads as meet
 use Rattle.step_copy_pair.proofs.meet.meet.Kinds as meet-kinds
@@ -51,7 +51,7 @@ pub +meet-onward-spec : {M : Type 1} → statement M
     (λ c. search rules)
     (λ c. search rules)
     (λ c. search rules)
-    (λ c. (search (rules, to-ends), (search (rules, to-ends), (search rules, search (rules, meetings))))))
+    (λ c. (search (rules, to_ends), (search (rules, to_ends), (search rules, search (rules, meetings))))))
     λ t. onward-lts.spec
     (Pair-reads.Asked, Pair-reads.Learnt, meet_below t, meet.Post) (onward-at t) onward.Post
     (λ c κs. search rules)
@@ -61,8 +61,8 @@ pub +meet-onward-spec : {M : Type 1} → statement M
     (λ c. search rules)
     (λ c. search rules)
     (λ c. search rules)
-    (λ c. (search (rules, to-ends), (search (rules, to-ends), (search rules, search (rules, onwards)))))
+    (λ c. (search (rules, to_ends), (search (rules, to_ends), (search rules, search (rules, onwards)))))
     (λ c. search rules)
     (λ c. search rules)
     (λ c. search rules)
-    (λ c. (search (rules, to-ends), (search (rules, to-ends), (search rules, search (rules, onwards)))))
+    (λ c. (search (rules, to_ends), (search (rules, to_ends), (search rules, search (rules, onwards)))))

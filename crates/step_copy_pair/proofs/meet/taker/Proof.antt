@@ -1,6 +1,6 @@
 -- `step_copy_pair::meet::taker` meets its contract.
 use borrow.Author.Rules.{rules}
-use Rattle.step_copy_pair.proofs.Laws.Takers.{taker-looked}
+use Rattle.step_copy_pair.proofs.Laws.Takers.{taker_looked}
 use Rattle.step_copy_pair.proofs.meet.taker.Statement.{statement}
 use Rattle.step_copy_pair.proofs.meet.taker.Tie as tie
 
@@ -10,4 +10,4 @@ taker-spec = tie.close (tie.spec
     (λ c κs. search rules)
     (λ c. search rules)
     (λ c. search rules)
-    (λ c. (search rules, (search rules, search (rules, taker-looked)))))
+    (λ c. (search rules, (search rules, search (rules, taker_looked)))))

@@ -1,6 +1,6 @@
 -- `step_next::silent::first` meets its contract.
 use borrow.Author.Rules.{rules}
-use Rattle.state_progress.proofs.Laws.Progress.{to-ends}
+use Rattle.state_progress.proofs.Laws.Progress.{to_ends}
 use Rattle.step_next.proofs.Laws.Silent.{silents}
 use Rattle.step_next.proofs.silent.first.Statement.{statement}
 use Rattle.step_next.proofs.silent.first.Tie as tie
@@ -15,9 +15,9 @@ first_spec = tie.close (tie.spec
     (λ c. search rules)
     (λ c. search rules)
     (λ c. search rules)
-    (λ c. (search (rules, to-ends), (search (rules, to-ends), (search rules, (search rules, search (rules, silents))))))
+    (λ c. (search (rules, to_ends), (search (rules, to_ends), (search rules, (search rules, search (rules, silents))))))
     (λ c. search rules)
     (λ c. search rules)
     (λ c. search rules)
     (λ c. search rules)
-    (λ c. (search (rules, to-ends), (search (rules, to-ends), (search rules, (search rules, search (rules, silents)))))))
+    (λ c. (search (rules, to_ends), (search (rules, to_ends), (search rules, (search rules, search (rules, silents)))))))

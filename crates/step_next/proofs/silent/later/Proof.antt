@@ -1,6 +1,6 @@
 -- `step_next::silent::later` meets its contract.
 use borrow.Author.Rules.{rules}
-use Rattle.state_progress.proofs.Laws.Progress.{to-ends}
+use Rattle.state_progress.proofs.Laws.Progress.{to_ends}
 use Rattle.step_next.proofs.Laws.SilentLater.{laters}
 use Rattle.step_next.proofs.silent.later.Statement.{statement}
 use Rattle.step_next.proofs.silent.later.Tie as tie
@@ -19,9 +19,9 @@ later-spec = tie.close (tie.spec
     (λ c. search rules)
     (λ c. search rules)
     (λ c. search rules)
-    (λ c. (search (rules, to-ends), (search (rules, to-ends), (search rules, (search rules, search (rules, laters))))))
+    (λ c. (search (rules, to_ends), (search (rules, to_ends), (search rules, (search rules, search (rules, laters))))))
     (λ c. search rules)
     (λ c. search rules)
     (λ c. search rules)
     (λ c. search rules)
-    (λ c. (search (rules, to-ends), (search (rules, to-ends), (search rules, (search rules, search (rules, laters)))))))
+    (λ c. (search (rules, to_ends), (search (rules, to_ends), (search rules, (search rules, search (rules, laters)))))))

@@ -1,6 +1,6 @@
 -- `step_offer::pass::behind` meets its contract.
 use borrow.Author.Rules.{rules}
-use Rattle.step_offer.proofs.Laws.SeeksAlike.{passes-behind}
+use Rattle.step_offer.proofs.Laws.SeeksAlike.{passes_behind}
 use Rattle.step_offer.proofs.pass.behind.Statement.{statement}
 use Rattle.step_offer.proofs.pass.behind.Tie as tie
 
@@ -12,4 +12,4 @@ behind-spec = tie.close (tie.spec
     (λ c. search rules)
     (λ c κs. search rules)
     (λ c κs. search rules)
-    (λ c. (search rules, search (rules, passes-behind))))
+    (λ c. (search rules, search (rules, passes_behind))))

@@ -4,7 +4,7 @@ use borrow.Author.Rules.{rules}
 use lib.ListN.{length}
 use Rattle.buffer.specs.Buffer.{Within}
 use Rattle.buffer.proofs.Laws.Buffer.{unchanged}
-use Rattle.state_progress.proofs.Laws.Progress.{to-ends}
+use Rattle.state_progress.proofs.Laws.Progress.{to_ends}
 use Rattle.step_offer.proofs.Laws.Seek.{Comes, seekings}
 use Rattle.step_offer.proofs.seek.seek.Statement.{statement}
 use Rattle.step_offer.proofs.seek.seek.Tie as tie
@@ -27,11 +27,11 @@ seek-spec = tie.close (tie.spec invariant-loop decreases-loop
     (λ c κs. search rules)
     (λ c. search rules)
     (λ c. search rules)
-    (λ c. (search (rules, to-ends), (search (rules, to-ends), search (rules, seekings))))
+    (λ c. (search (rules, to_ends), (search (rules, to_ends), search (rules, seekings))))
     (λ c κs. search rules)
     (λ c. search rules)
-    (λ c. (search (rules, to-ends), search (rules, to-ends), search (rules, seekings), search rules, search rules, search rules))
+    (λ c. (search (rules, to_ends), search (rules, to_ends), search (rules, seekings), search rules, search rules, search rules))
     (λ c κs. search rules)
     (λ c. search rules)
     (λ c. search rules)
-    (λ c. (search (rules, to-ends), (search (rules, to-ends), search (rules, seekings)))))
+    (λ c. (search (rules, to_ends), (search (rules, to_ends), search (rules, seekings)))))

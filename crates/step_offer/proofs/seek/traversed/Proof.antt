@@ -1,7 +1,7 @@
 -- `step_offer::seek::traversed` meets its contract.
 use borrow.Author.Rules.{rules}
-use Rattle.state_progress.proofs.Laws.Progress.{to-ends}
-use Rattle.step_offer.proofs.Laws.Look.{looks-traversed}
+use Rattle.state_progress.proofs.Laws.Progress.{to_ends}
+use Rattle.step_offer.proofs.Laws.Look.{looks_traversed}
 use Rattle.step_offer.proofs.seek.traversed.Statement.{statement}
 use Rattle.step_offer.proofs.seek.traversed.Tie as tie
 
@@ -12,4 +12,4 @@ traversed-spec = tie.close (tie.spec
     (λ c κs. search rules)
     (λ c. search rules)
     (λ c. search rules)
-    (λ c. (search (rules, to-ends), (search rules, search (rules, looks-traversed)))))
+    (λ c. (search (rules, to_ends), (search rules, search (rules, looks_traversed)))))

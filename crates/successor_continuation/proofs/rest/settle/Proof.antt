@@ -1,7 +1,7 @@
 -- `successor_continuation::rest::settle` meets its contract.
 use borrow.Author.Rules.{rules}
 use Rattle.buffer.proofs.Laws.Buffer.{unchanged}
-use Rattle.state_progress.proofs.Laws.Progress.{extensions, to-ends}
+use Rattle.state_progress.proofs.Laws.Progress.{extensions, to_ends}
 use Rattle.successor_continuation.proofs.Laws.Rest.{settlings}
 use Rattle.successor_continuation.proofs.rest.settle.Statement.{statement}
 use Rattle.successor_continuation.proofs.rest.settle.Tie as tie
@@ -11,8 +11,8 @@ settle-spec = tie.close (tie.spec
     (λ c κs. search rules)
     (λ c. search rules)
     (λ c κs. search rules)
-    (λ c. (search (rules, extensions), (search (rules, unchanged, to-ends), (search (rules, unchanged, to-ends), search (rules, settlings)))))
+    (λ c. (search (rules, extensions), (search (rules, unchanged, to_ends), (search (rules, unchanged, to_ends), search (rules, settlings)))))
     (λ c κs. search rules)
     (λ c. search rules)
     (λ c. search rules)
-    (λ c. (search (rules, extensions), (search (rules, to-ends), (search (rules, to-ends), search (rules, settlings))))))
+    (λ c. (search (rules, extensions), (search (rules, to_ends), (search (rules, to_ends), search (rules, settlings))))))

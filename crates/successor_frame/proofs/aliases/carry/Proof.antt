@@ -1,7 +1,7 @@
 -- `successor_frame::aliases::carry` meets its contract.
 use borrow.Author.Rules.{rules}
-use Rattle.state_progress.proofs.Laws.Progress.{to-end-twice}
-use Rattle.successor_frame.proofs.Laws.Aliases.{carried, carried-behind}
+use Rattle.state_progress.proofs.Laws.Progress.{to_end_twice}
+use Rattle.successor_frame.proofs.Laws.Aliases.{carried, carried_behind}
 use Rattle.successor_frame.proofs.aliases.carry.Statement.{statement}
 use Rattle.successor_frame.proofs.aliases.carry.Tie as tie
 
@@ -11,4 +11,4 @@ carry-spec = tie.close (tie.spec
     (λ c κs. search rules)
     (λ c κs. search rules)
     (λ c. search rules)
-    (λ c. (search (rules, to-end-twice), (search (rules, carried-behind), search (rules, carried)))))
+    (λ c. (search (rules, to_end_twice), (search (rules, carried_behind), search (rules, carried)))))

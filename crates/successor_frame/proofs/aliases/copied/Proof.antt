@@ -1,7 +1,7 @@
 -- `successor_frame::aliases::copied` meets its contract.
 use borrow.Author.Rules.{rules}
 use Rattle.buffer.proofs.Laws.Buffer.{unchanged}
-use Rattle.successor_frame.proofs.Laws.Aliases.{copyings, asks-from, asks-to, asks-apart}
+use Rattle.successor_frame.proofs.Laws.Aliases.{copyings, asks_from, asks_to, asks_apart}
 use Rattle.successor_frame.proofs.aliases.copied.Statement.{statement}
 use Rattle.successor_frame.proofs.aliases.copied.Tie as tie
 
@@ -11,7 +11,7 @@ copied-spec = tie.close (tie.spec
     (λ c. (search (rules, unchanged), (search rules, search (rules, copyings))))
     (λ c. (search (rules, unchanged), (search rules, search (rules, copyings))))
     (λ c. (search (rules, unchanged), (search rules, search (rules, copyings))))
-    (λ c κs. (search (rules, asks-from), (search (rules, asks-to), search (rules, asks-apart))))
+    (λ c κs. (search (rules, asks_from), (search (rules, asks_to), search (rules, asks_apart))))
     (λ c. search rules)
     (λ c. search rules)
     (λ c. (search (rules, copyings), (search rules, search (rules, copyings)))))

@@ -1,8 +1,8 @@
 -- `successor_next::arrive::next` meets its contract.
 use native.Mathlib.Omega.{arith}
 use borrow.Author.Rules.{rules}
-use Rattle.state_progress.proofs.Laws.Progress.{to-ends}
-use Rattle.successor_next.proofs.Laws.Arrive.{arrives-none, arrives-by}
+use Rattle.state_progress.proofs.Laws.Progress.{to_ends}
+use Rattle.successor_next.proofs.Laws.Arrive.{arrives_none, arrives_by}
 use Rattle.successor_next.proofs.arrive.next.Statement.{statement}
 use Rattle.successor_next.proofs.arrive.next.Tie as tie
 
@@ -21,14 +21,14 @@ next-spec = tie.close (tie.spec
     (λ c. search rules)
     (λ c.
     let found = c.before.before.before.before.before.before.before.before.before.before.before.before.before.before.before.before.before.before.before.next.ensures in (
-      search (rules, to-ends),
+      search (rules, to_ends),
       (
-        search (rules, to-ends),
+        search (rules, to_ends),
         (
           search rules,
           (
             search rules,
-            arrives-by found.1.1.1.1 c.before.before.before.before.before.before.before.before.before.found.given.1 found.0 found.1.0 c.before.before.before.before.led.ensures.1.1,
+            arrives_by found.1.1.1.1 c.before.before.before.before.before.before.before.before.before.found.given.1 found.0 found.1.0 c.before.before.before.before.led.ensures.1.1,
           ),
         ),
       ),
@@ -37,4 +37,4 @@ next-spec = tie.close (tie.spec
     (λ c. search rules)
     (λ c. search rules)
     (λ c. search rules)
-    (λ c. (search (rules, to-ends), (search (rules, to-ends), (search rules, (search rules, search (rules, arrives-none)))))))
+    (λ c. (search (rules, to_ends), (search (rules, to_ends), (search rules, (search rules, search (rules, arrives_none)))))))

@@ -1,6 +1,6 @@
 -- `successor_path::reach::branch` meets its contract.
 use borrow.Author.Rules.{rules}
-use Rattle.successor_path.proofs.Laws.ReachPart.{ifs-passed}
+use Rattle.successor_path.proofs.Laws.ReachPart.{ifs_passed}
 use Rattle.successor_path.proofs.reach.branch.Statement.{statement}
 use Rattle.successor_path.proofs.reach.branch.Tie as tie
 
@@ -10,7 +10,7 @@ branch-spec = tie.close (tie.spec
     (λ c κs. search rules)
     (λ c κs. search rules)
     (λ c. search rules)
-    (λ c. (search rules, search (rules, ifs-passed)))
+    (λ c. (search rules, search (rules, ifs_passed)))
     (λ c κs. search rules)
     (λ c. search rules)
-    (λ c. (search rules, search (rules, ifs-passed))))
+    (λ c. (search rules, search (rules, ifs_passed))))

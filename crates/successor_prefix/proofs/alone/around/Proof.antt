@@ -1,6 +1,6 @@
 -- `successor_prefix::alone::around` meets its contract.
 use borrow.Author.Rules.{rules}
-use Rattle.successor_prefix.proofs.Laws.Around.{around-so}
+use Rattle.successor_prefix.proofs.Laws.Around.{around_so}
 use Rattle.successor_prefix.proofs.alone.around.Statement.{statement}
 use Rattle.successor_prefix.proofs.alone.around.Tie as tie
 
@@ -14,4 +14,4 @@ around-spec = tie.close (tie.spec
     (λ c κs. search rules)
     (λ c. search rules)
     (λ c κs. search rules)
-    (λ c. (search rules, search (rules, around-so))))
+    (λ c. (search rules, search (rules, around_so))))

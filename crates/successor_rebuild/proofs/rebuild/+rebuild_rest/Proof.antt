@@ -5,7 +5,7 @@ use borrow.Author.Rules.{rules}
 use borrow.Fn.Kinds.{In}
 use borrow.Fn.PlainCycle.{Measures, is, falls, and}
 use Rattle.buffer.proofs.Laws.Buffer.{unchanged}
-use Rattle.state_progress.proofs.Laws.Progress.{extensions, to-ends, records-ends}
+use Rattle.state_progress.proofs.Laws.Progress.{extensions, to_ends, records_ends}
 use Rattle.successor_rebuild.proofs.Laws.Rebuild.{rebuilds, one_more, after_block}
 use Rattle.successor_rebuild.proofs.rebuild.rebuild.Reads as rebuild
 use Rattle.successor_rebuild.proofs.rebuild.rebuild.Kinds as rebuild-kinds
@@ -49,7 +49,7 @@ pub +rebuild-rest-spec : {M : Type 1} → statement M
     (λ c κs. search rules)
     (λ c. search rules)
     (λ c. search rules)
-    (λ c. (search (rules, extensions), (search (rules, to-ends), (search (rules, records-ends), search (rules, after_block))))))
+    (λ c. (search (rules, extensions), (search (rules, to_ends), (search (rules, records_ends), search (rules, after_block))))))
     (λ t. rest-lts.spec
     (number-reads.Asked, number-reads.Learnt, act-reads.Asked, act-reads.Learnt, rebuild-below t, rebuild.Post) (rest_at t) rest.Post
     (λ c. (search (rules, extensions), (search (rules, unchanged), (search (rules, unchanged), search (rules, rebuilds)))))
@@ -66,9 +66,9 @@ pub +rebuild-rest-spec : {M : Type 1} → statement M
     (λ c. (
       search (rules, extensions),
       (
-        search (rules, to-ends),
+        search (rules, to_ends),
         (
-          search (rules, records-ends),
+          search (rules, records_ends),
           search (
             rules,
             one_more,

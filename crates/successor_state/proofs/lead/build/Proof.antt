@@ -1,7 +1,7 @@
 -- `successor_state::lead::build` meets its contract.
 use borrow.Author.Rules.{rules}
-use Rattle.state_progress.proofs.Laws.Progress.{to-end-twice}
-use Rattle.successor_state.proofs.Laws.Lead.{leads-at}
+use Rattle.state_progress.proofs.Laws.Progress.{to_end_twice}
+use Rattle.successor_state.proofs.Laws.Lead.{leads_at}
 use Rattle.successor_state.proofs.lead.build.Statement.{statement}
 use Rattle.successor_state.proofs.lead.build.Tie as tie
 
@@ -14,4 +14,4 @@ build-spec = tie.close (tie.spec
     (λ c κs. search rules)
     (λ c. search rules)
     (λ c. search rules)
-    (λ c. (search rules, (search (rules, to-end-twice), search (rules, leads-at)))))
+    (λ c. (search rules, (search (rules, to_end_twice), search (rules, leads_at)))))

@@ -1,6 +1,6 @@
 -- `successor_state::lead::named` meets its contract.
 use borrow.Author.Rules.{rules}
-use Rattle.state_progress.proofs.Laws.Progress.{to-ends}
+use Rattle.state_progress.proofs.Laws.Progress.{to_ends}
 use Rattle.successor_state.proofs.Laws.Leads.{leadings}
 use Rattle.successor_state.proofs.lead.named.Statement.{statement}
 use Rattle.successor_state.proofs.lead.named.Tie as tie
@@ -13,7 +13,7 @@ named-spec = tie.close (tie.spec
     (λ c. search rules)
     (λ c. search rules)
     (λ c. search rules)
-    (λ c. (search (rules, to-ends), (search (rules, to-ends), search (rules, leadings))))
+    (λ c. (search (rules, to_ends), (search (rules, to_ends), search (rules, leadings))))
     (λ c. search rules)
     (λ c. search rules)
-    (λ c. (search (rules, to-ends), (search (rules, to-ends), search (rules, leadings)))))
+    (λ c. (search (rules, to_ends), (search (rules, to_ends), search (rules, leadings)))))

@@ -1,6 +1,6 @@
 -- `verdict_input::input::slice` meets its contract, by what was read.
 use borrow.Author.Rules.{rules}
-use Rattle.verdict_input.proofs.Laws.Input.{place-fits, inputs}
+use Rattle.verdict_input.proofs.Laws.Input.{place_fits, inputs}
 use Rattle.verdict_input.proofs.input.slice.Statement.{statement}
 use Rattle.verdict_input.proofs.input.slice.Tie as tie
 
@@ -9,7 +9,7 @@ slice-spec = tie.close (tie.spec
     (λ c. search rules)
     (λ c. search rules)
     (λ c κs. search rules)
-    (λ c. search (rules, place-fits))
+    (λ c. search (rules, place_fits))
     (λ c κs. search rules)
     (λ c. search (rules, inputs))
     (λ c. search (rules, inputs)))

@@ -1,6 +1,6 @@
 -- `verdict_state::model::build` meets its contract.
 use borrow.Author.Rules.{rules}
-use Rattle.verdict_state.proofs.Laws.Model.{judges-model}
+use Rattle.verdict_state.proofs.Laws.Model.{judges_model}
 use Rattle.verdict_state.proofs.model.build.Statement.{statement}
 use Rattle.verdict_state.proofs.model.build.Tie as tie
 
@@ -11,4 +11,4 @@ build-spec = tie.close (tie.spec
     (λ c. search rules)
     (λ c. search rules)
     (λ c. search rules)
-    (λ c. (search rules, (search rules, (search rules, search (rules, judges-model))))))
+    (λ c. (search rules, (search rules, (search rules, search (rules, judges_model))))))

@@ -1,6 +1,6 @@
 -- `verdict_state::model::start` meets its contract.
 use borrow.Author.Rules.{rules}
-use Rattle.verdict_state.proofs.Laws.Model.{judges-indexed}
+use Rattle.verdict_state.proofs.Laws.Model.{judges_indexed}
 use Rattle.verdict_state.proofs.model.start.Statement.{statement}
 use Rattle.verdict_state.proofs.model.start.Tie as tie
 
@@ -10,4 +10,4 @@ start_spec = tie.close (tie.spec
     (λ c κs. search rules)
     (λ c. search rules)
     (λ c. search rules)
-    (λ c. (search rules, (search rules, (search rules, search (rules, judges-indexed))))))
+    (λ c. (search rules, (search rules, (search rules, search (rules, judges_indexed))))))
