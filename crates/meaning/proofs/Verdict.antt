@@ -110,14 +110,18 @@ module _ {s₁ s₂ s₃ : List ℕ} {work : ℕ} (budget : ℕ) where
       ap (λ x. verdict_on x budget) (sorted_once s₁ s₂ s₃ work i) ∙ ranked_once P Q F budget r
 
   -- The one answer with result 0.
+  acceptably : {P Q : Process} {F : Formula} {a : Answer} → Sorted s₁ s₂ s₃ work (good P Q F) → Ranked P Q F budget a → a.result ≡ 0
+      → Acceptable s₁ s₂ s₃ work budget
+  acceptably i (over_budget h) z = absurd (omega arith)
+  acceptably i (limit_met h m) z = absurd (omega arith)
+  acceptably i (false_of_first h u n) z = absurd (omega arith)
+  acceptably i (true_of_both h u t t') z = absurd (omega arith)
+  acceptably {P} {Q} {F} (formed f) (accepted h u t n) z =
+      record { P = P; Q = Q; F = F; formed = f; true_of_first = t; false_of_second = n; within_budget = h; unlimited = u }
+
   acceptable : {a : Answer} → Answered s₁ s₂ s₃ work budget a → a.result ≡ 0 → Acceptable s₁ s₂ s₃ work budget
   acceptable (input_refused i) z = let n = input_refused_by i in absurd (omega arith)
-  acceptable (Answered.judged i (over_budget h)) z = absurd (omega arith)
-  acceptable (Answered.judged i (limit_met h m)) z = absurd (omega arith)
-  acceptable (Answered.judged i (false_of_first h u n)) z = absurd (omega arith)
-  acceptable (Answered.judged i (true_of_both h u t t')) z = absurd (omega arith)
-  acceptable (Answered.judged {P = P} {Q = Q} {F = F} (formed f) (accepted h u t n)) z =
-      record { P = P; Q = Q; F = F; formed = f; true_of_first = t; false_of_second = n; within_budget = h; unlimited = u }
+  acceptable (Answered.judged i r) z = acceptably i r z
 
 pub verdict_exact : VerdictExact
 unfolding verdict
