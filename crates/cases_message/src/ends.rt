@@ -11,7 +11,7 @@ pub(crate) const SPACE: usize = 16384;
 const LAST_START: usize = SPACE - bind::REACH;
 
 // The bound messages: where the last but one begins, where the last begins and ends, and the next private name.
-#[derive(Drop)]
+#[derive(Clone, Copy)]
 pub(crate) struct Ends {
     before: usize,
     last: usize,
@@ -20,7 +20,7 @@ pub(crate) struct Ends {
 }
 
 // With the message of one step more; or why there is none has been written.
-#[derive(Drop)]
+#[derive(Clone, Copy)]
 pub(crate) enum Taken {
     Bound(Ends),
     Stopped,

@@ -14,7 +14,7 @@ use successor_state::lead;
 const STEPS: usize = 4096;
 
 // A step, and the state that it leads to; or there is no further step.
-#[derive(Drop)]
+#[derive(Clone, Copy)]
 pub(crate) enum Led {
     To(Step, Formed),
     Nowhere,

@@ -26,7 +26,7 @@ pub fn spell(text: &[u8], out: &mut [u8]) -> usize
 
 // What has been made of a text: so many bytes, where the last bracket opened, the first digit of a byte (or none),
 // whether a number of copies is being read, and that number so far.
-#[derive(Drop)]
+#[derive(Clone, Copy)]
 struct Made {
     len: usize,
     start: usize,

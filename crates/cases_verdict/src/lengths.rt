@@ -5,7 +5,7 @@ ghost use Rattle.cases_verdict.specs.Lengths.{LengthsFit};
 // The bytes that there are for a slice: more than the 4,096 that one may have.
 pub(crate) const SPACE: usize = 4300;
 
-#[derive(Drop)]
+#[derive(Clone, Copy)]
 pub(crate) struct Lengths {
     pub(crate) first: usize,
     pub(crate) second: usize,

@@ -41,7 +41,7 @@ fn budget_of(n: usize) -> u32 {
 }
 
 // What a verdict leaves of the work bytes.
-#[derive(Drop)]
+#[derive(Clone, Copy)]
 pub(crate) enum WorkBytes {
     Untouched,
     Cleared,

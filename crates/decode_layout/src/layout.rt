@@ -4,7 +4,7 @@ ghost use Rattle.decode_layout.specs.Layout.{layout_of, term_layouts, process_la
 
 // How many fields of its own follow a kind (numbers after a term's kind, terms after the others), how many variables or aliases
 // it adds for its parts, 1 if it is a step formula, and how many parts of its own sort follow.
-#[derive(Drop)]
+#[derive(Clone, Copy)]
 pub struct Layout(pub usize, pub usize, pub usize, pub usize);
 
 // How many kinds there are.

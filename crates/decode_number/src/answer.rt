@@ -3,7 +3,7 @@ ghost use Rattle.std.specs.Prelude.{◌≡◌};
 ghost use Rattle.decode_number.specs.Answer.{refusal_number};
 
 // Why a slice is refused: 1 to 8, in document 01's order. No bytes meet NameRange (`NeverNameRange` of `meaning`).
-#[derive(Drop)]
+#[derive(Clone, Copy)]
 pub enum Refusal {
     TooLong,
     Truncated,
@@ -16,7 +16,7 @@ pub enum Refusal {
 }
 
 // Where what stands at a position ends; or why it is refused, and where.
-#[derive(Drop)]
+#[derive(Clone, Copy)]
 pub enum Answer {
     Ends(usize),
     Refused(Refusal, usize),

@@ -14,7 +14,7 @@ const ONE_BYTE: usize = 128;
 const TWO_BYTES: usize = 16384;
 
 // The number's value and the position after it; or the bytes end early; or it is not in the one form.
-#[derive(Drop)]
+#[derive(Clone, Copy)]
 pub enum Numeral {
     Value(usize, usize),
     Truncated,
@@ -38,7 +38,7 @@ fn decode(first: usize, second: usize) -> usize
 }
 
 // The value of a number, in whatever form, and the position after it.
-#[derive(Drop)]
+#[derive(Clone, Copy)]
 pub struct Decoding(pub usize, pub usize);
 
 // The number at a position, in whatever form. Where the bytes end early, the position after it is that position itself. A number of one
@@ -78,7 +78,7 @@ pub fn read(s: &[u8], at: usize) -> Numeral
 }
 
 // A number below a limit and the position after it; or why it is refused, and where.
-#[derive(Drop)]
+#[derive(Clone, Copy)]
 pub enum Bounded {
     Is(usize, usize),
     Refused(Refusal, usize),

@@ -13,7 +13,7 @@ const BYTE: usize = 255;
 // Where a process ends; the position after the kind of the last output that it offers at once, in whatever branch and in copies too, and the
 // same of inputs, 0 if there is none; how many private names it takes, and one more, or 0 if a message decides that; and how far it may grow:
 // the threads that it has at most after it was settled and one copy of each repl in it was opened, and the private names on the way.
-#[derive(Drop)]
+#[derive(Clone, Copy)]
 pub struct Entry {
     pub end: usize,
     pub output: usize,

@@ -12,7 +12,7 @@ use decode_layout::{ends, formula_kind, layout, limit};
 pub const LENGTH: usize = 12288;
 
 // Where a formula ends, and whether it has no steps.
-#[derive(Drop)]
+#[derive(Clone, Copy)]
 pub(crate) struct Entry {
     pub end: usize,
     pub stepless: bool,

@@ -8,7 +8,7 @@ use message_term::work;
 use message_term::work::Worked;
 
 // Where the second term ends, and whether the two are equal; or a part of one of them is too large.
-#[derive(Drop)]
+#[derive(Clone, Copy)]
 pub enum Compared {
     Terms(usize, bool),
     TooLarge,

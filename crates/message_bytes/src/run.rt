@@ -9,7 +9,7 @@ use buffer::word;
 pub const LENGTH: usize = 510;
 
 // A part of a slice, from one position to another.
-#[derive(Drop)]
+#[derive(Clone, Copy)]
 pub struct Part(pub usize, pub usize);
 
 // The nodes of the message that stands at the front; of a normal form, that is its size. A node is counted, and its parts are still to

@@ -6,7 +6,7 @@ use decode_number::number;
 use decode_number::number::Decoding;
 
 // A number, and where it ends.
-#[derive(Drop)]
+#[derive(Clone, Copy)]
 pub(crate) struct Field(pub usize, pub usize);
 
 // The number at a position. Where none stands, the answer is open. The remainder changes no number that was read, and bounds it.

@@ -12,7 +12,7 @@ use message_normal::normal;
 
 // Where the term ends, and where its message ends; or a normal form of more than 255 nodes arose. Where no term stands, the
 // answer is open.
-#[derive(Drop)]
+#[derive(Clone, Copy)]
 pub enum Worked {
     Done(usize, usize),
     TooLarge,

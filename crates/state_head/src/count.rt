@@ -12,7 +12,7 @@ use index_process::index;
 use message_binding::bind;
 
 // The private name after those that were counted; or a limit was met.
-#[derive(Drop)]
+#[derive(Clone, Copy)]
 pub enum Counted {
     Names(usize),
     OverLimit,

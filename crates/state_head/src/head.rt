@@ -19,7 +19,7 @@ pub const BOUND: usize = 10750;
 
 // Where a process stands, how many nodes are left on its path, where the bound messages end, and the next private name; unless a limit was
 // met, and then it goes no further.
-#[derive(Drop)]
+#[derive(Clone, Copy)]
 pub struct Head {
     pub going: bool,
     pub at: usize,

@@ -7,7 +7,7 @@ use state_record::state::State;
 // Whether it goes on; the next private name; and the state that is being written. A traversal that has found what it seeks goes no further:
 // then names is the next private name with all copies on the way opened, mark is that of the thread, and the messages that it hands over
 // stand in the work bytes from sent to the end of the state. A traversal that met a limit has the mark 0.
-#[derive(Drop)]
+#[derive(Clone, Copy)]
 pub struct Progress {
     pub going: bool,
     pub names: usize,

@@ -4,7 +4,7 @@ ghost use Rattle.state_record.specs.Room.{fresh_state, Grows};
 
 // Where the messages of its aliases begin in the work bytes, where the records of its threads begin and end, how many threads they are, how
 // many nodes all these messages have, and the next private name.
-#[derive(Drop)]
+#[derive(Clone, Copy)]
 pub struct State {
     pub aliases: usize,
     pub start: usize,
@@ -41,7 +41,7 @@ impl State {
 }
 
 // A state with one thread more, or none where that would be over a limit.
-#[derive(Drop)]
+#[derive(Clone, Copy)]
 pub enum Grown {
     To(State),
     Full,

@@ -6,7 +6,7 @@ ghost use Rattle.state_record.specs.Stored.{Fetched, Loads};
 use buffer::{slice, word};
 
 // A thread that was loaded: where its process stands in the model, where its messages end in the bytes m, and where its record ends.
-#[derive(Drop)]
+#[derive(Clone, Copy)]
 pub struct Loaded {
     pub place: usize,
     pub end: usize,

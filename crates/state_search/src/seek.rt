@@ -21,7 +21,7 @@ use state_task::task::Quest;
 // What a traversal that seeks has come to: it goes on with a next private name; or it goes no further. Then it has the next private name, all
 // copies on the way being opened, the mark of the thread that it found, or 0 where a limit was met, and from where to where the messages
 // stand that it hands over.
-#[derive(Drop)]
+#[derive(Clone, Copy)]
 pub enum Sought {
     On(usize),
     Ended(usize, usize, usize, usize),

@@ -14,7 +14,7 @@ use state_traversal::traverse;
 const NODES: usize = limit::PROCESS_NODES;
 
 // A state within its limits, or none.
-#[derive(Drop)]
+#[derive(Clone, Copy)]
 pub enum Formed {
     At(State),
     OverLimit,

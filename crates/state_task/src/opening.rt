@@ -3,7 +3,7 @@ use crate::task::Task;
 
 // A copy that is opened for a task at a private name: its names are counted first, since copies inside it open after them; or it is one that
 // was opened before, and the task says where copies inside it open.
-#[derive(Drop)]
+#[derive(Clone, Copy)]
 pub enum Opening {
     None,
     Copy(Task, usize),
@@ -12,7 +12,7 @@ pub enum Opening {
 
 // What is done with the repl thread itself: nothing; it is written before its copies are opened, or after; or it is found, if the traversal still
 // goes on, copies opening at a private name.
-#[derive(Drop)]
+#[derive(Clone, Copy)]
 pub enum Own {
     Passed,
     Before,
@@ -21,7 +21,7 @@ pub enum Own {
 }
 
 // What is done with the repl thread, and its copies that are opened, one after the other.
-#[derive(Drop)]
+#[derive(Clone, Copy)]
 pub struct Copies {
     pub own: Own,
     pub first: Opening,

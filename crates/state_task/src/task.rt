@@ -5,7 +5,7 @@ ghost use Rattle.state_task.specs.Machine.{opening, sending, taking};
 
 // An offer that is looked for: an output or an input, on any channel or on the one that is the traversal's argument, at the position from or
 // after it, in no thread that has the position of the mark excluded in it.
-#[derive(Drop)]
+#[derive(Clone, Copy)]
 pub struct Quest {
     pub output: bool,
     pub any: bool,
@@ -15,7 +15,7 @@ pub struct Quest {
 
 // A repl thread, by its mark, and how many of its copies take part in the step so far, which says where an offer is sought: in the first copy
 // (0), in the same copy once more (1), or in a second one (2), which opens at a private name, as copies inside the same one do.
-#[derive(Drop)]
+#[derive(Clone, Copy)]
 pub struct CopyAt {
     pub place: usize,
     pub arity: usize,
@@ -24,7 +24,7 @@ pub struct CopyAt {
 
 // The threads that act, by their marks, with the private names at which the taker's copies open, and at which what follows the sender and
 // what follows the taker is settled.
-#[derive(Drop)]
+#[derive(Clone, Copy)]
 pub struct Plan {
     pub sender: usize,
     pub taker: usize,
@@ -34,7 +34,7 @@ pub struct Plan {
 }
 
 // What is done at each thread. The number that stands last is the private name at which copies open.
-#[derive(Drop)]
+#[derive(Clone, Copy)]
 pub enum Task {
     // Nothing, so that names alone are counted. It is there for the definitions: the code counts names by itself.
     Count,

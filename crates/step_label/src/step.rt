@@ -2,7 +2,7 @@
 // processes in the model.
 
 // What a step does.
-#[derive(Drop)]
+#[derive(Clone, Copy)]
 pub enum Label {
     Output,
     Input,
@@ -11,7 +11,7 @@ pub enum Label {
 
 // A thread that acts: where its record stands, the mark of the process that acts, which is in a copy of the thread or is the thread itself,
 // and the next private name, all copies on the way being opened. A mark is the position and one more, so that 0 is none.
-#[derive(Drop)]
+#[derive(Clone, Copy)]
 pub struct Actor {
     pub at: usize,
     pub mark: usize,
@@ -20,7 +20,7 @@ pub struct Actor {
 
 // Who sends, who takes, and how many bytes the message takes that is sent. In a silent step of one thread, copy is the mark of the repl thread
 // whose copies take part, and arity how many of them, one or two; otherwise both are 0.
-#[derive(Drop)]
+#[derive(Clone, Copy)]
 pub struct Step {
     pub label: Label,
     pub arity: usize,
@@ -31,7 +31,7 @@ pub struct Step {
 }
 
 // The next step, or none.
-#[derive(Drop)]
+#[derive(Clone, Copy)]
 pub enum Next {
     Found(Step),
     None,

@@ -7,7 +7,7 @@ use message_bytes::run;
 use state_record::stored;
 
 // How many bytes each of them takes.
-#[derive(Drop)]
+#[derive(Clone, Copy)]
 pub struct Handed {
     pub channel: usize,
     pub message: usize,

@@ -12,7 +12,7 @@ use state_prefix::thread;
 use state_task::task::Quest;
 
 // Where the first record stands that is not passed by, and the position from which on its thread's offers are sought.
-#[derive(Drop)]
+#[derive(Clone, Copy)]
 pub(crate) struct Passed {
     pub at: usize,
     pub from: usize,

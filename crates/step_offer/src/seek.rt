@@ -18,7 +18,7 @@ use state_search::seek;
 use state_task::task::Quest;
 
 // An offer: where the record of its thread stands, and what the traversal of that thread found. Its mark is 0 where there is none.
-#[derive(Drop)]
+#[derive(Clone, Copy)]
 pub struct Sighting {
     pub at: usize,
     pub done: Progress,

@@ -11,7 +11,7 @@ use state_task::task::CopyAt;
 use step_label::step::{Actor, Label, Step};
 
 // The private names at which the rest of a silent step's taker is settled, and the next one after all rests; or a rest meets a limit.
-#[derive(Drop)]
+#[derive(Clone, Copy)]
 pub enum Rests {
     At(usize, usize),
     OverLimit,

@@ -11,7 +11,7 @@ use step_next::next;
 use successor_state::lead;
 
 // A step, and the state that it leads to; or there is no further step.
-#[derive(Drop)]
+#[derive(Clone, Copy)]
 pub enum Arrived {
     By(Step, Formed),
     None,

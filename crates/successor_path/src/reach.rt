@@ -17,7 +17,7 @@ use state_task::place;
 
 // What a way has come to: where a process stands, how many nodes are left on a path there, where the bound messages end, the private name
 // at which it is settled, and the one at which its copies open. No node is left where the mark was not found.
-#[derive(Drop)]
+#[derive(Clone, Copy)]
 pub struct Way {
     pub at: usize,
     pub left: usize,

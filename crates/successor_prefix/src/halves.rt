@@ -7,7 +7,7 @@ use successor_rebuild::block;
 use successor_rebuild::block::Block;
 
 // The two blocks.
-#[derive(Drop)]
+#[derive(Clone, Copy)]
 pub struct Halves {
     pub before: Block,
     pub behind: Block,

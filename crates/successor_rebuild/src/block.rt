@@ -11,7 +11,7 @@ use state_record::record;
 use state_record::state::State;
 
 // Where the records end, how many threads they are, and how many nodes their messages have.
-#[derive(Drop)]
+#[derive(Clone, Copy)]
 pub struct Block {
     pub end: usize,
     pub threads: usize,

@@ -7,7 +7,7 @@ use step_label::step::{Label, Step};
 use successor_continuation::names;
 
 // What is done to the two threads whose records stand at the positions first and second. If they are the same, the first task is done.
-#[derive(Drop)]
+#[derive(Clone, Copy)]
 pub struct Tasks {
     pub first: usize,
     pub task: Task,

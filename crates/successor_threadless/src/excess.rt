@@ -10,7 +10,7 @@ use step_label::step::{Label, Step};
 use successor_rebuild::kind;
 
 // So many threads and nodes; if the threads are more than a state may have, nothing is said.
-#[derive(Drop)]
+#[derive(Clone, Copy)]
 pub struct Excess {
     pub threads: usize,
     pub nodes: usize,

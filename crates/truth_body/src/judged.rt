@@ -3,14 +3,14 @@ ghost use Rattle.std.specs.Prelude.{◌≡◌, ◌&&◌, ◌||◌};
 
 // Whether the formula is true, whether a visit met a limit, and what is left of the budget; or the visits are more than the budget, which is
 // also the answer where no formula stands.
-#[derive(Drop)]
+#[derive(Clone, Copy)]
 pub enum Judged {
     Done(bool, bool, u32),
     Spent,
 }
 
 // What the steps of a formula have come to so far, or the first side of `and`.
-#[derive(Drop)]
+#[derive(Clone, Copy)]
 pub struct Sum {
     pub truth: bool,
     pub limited: bool,

@@ -10,7 +10,7 @@ use step_label::step::Label;
 
 // Nothing; only that it comes to the same at all states within their limits that the steps lead to; or what it comes to there: its truth,
 // whether a visit meets a limit, and its visits.
-#[derive(Drop)]
+#[derive(Clone, Copy)]
 pub enum Memo {
     Open,
     Alike,

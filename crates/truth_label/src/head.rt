@@ -11,7 +11,7 @@ use message_term::work::Worked;
 use step_label::step::Label;
 
 // What the step does, where the body of the formula stands, and how many bytes the messages of the channel and of an input take.
-#[derive(Drop)]
+#[derive(Clone, Copy)]
 pub struct Head {
     pub label: Label,
     pub body: usize,
@@ -20,7 +20,7 @@ pub struct Head {
 }
 
 // A head, or a recipe of it has a part that is too large.
-#[derive(Drop)]
+#[derive(Clone, Copy)]
 pub enum Headed {
     By(Head),
     TooLarge,

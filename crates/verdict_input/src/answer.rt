@@ -5,7 +5,7 @@ ghost use Rattle.verdict_input.specs.Answer.{numbers, turned_back};
 
 // The result, 0 for accepted; the slice (1 first model, 2 second, 3 formula, 0 none); the place, a byte offset; and the count.
 #[repr(C)]
-#[derive(Drop)]
+#[derive(Clone, Copy)]
 pub struct Answer {
     pub result: u32,
     pub slice: u32,

@@ -11,7 +11,7 @@ use decode_layout::limit;
 use decode_number::answer::{Answer as Read, code};
 
 // Nothing turns it back; or the answer on the first thing that does.
-#[derive(Drop)]
+#[derive(Clone, Copy)]
 pub enum Input {
     Good,
     Bad(Answer),

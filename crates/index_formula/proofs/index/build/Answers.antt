@@ -1,0 +1,7 @@
+-- `index_formula::index::build` meets its contract: the formula is put in its place, and indexed there.
+use Rattle.std.proofs.Common.{rules}
+use Rattle.index_formula.proofs.Laws.Index.{built}
+use Rattle.index_formula.proofs.index.build.Goals as goal
+
+pub returns-clause-builds : goal.returns-clause-builds
+returns-clause-builds c = search (rules, built)
