@@ -5,6 +5,8 @@
 // copied. A byte is two digits, 0 to 9 or A to F. `[07 00]12 ` is what stands in the brackets twelve times; the number has at most
 // four digits and ends with a blank or with the line. Brackets do not nest, and other characters are passed over. The table may
 // have 65,536 bytes.
+#![tactic(auto)]
+
 use cases_text::{spell, text};
 use decode_number::answer;
 use decode_number::answer::Answer;

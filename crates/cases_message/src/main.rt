@@ -8,6 +8,8 @@
 // two messages are equal. If a message is too large, the answer is in which step of the line, counted from 0. A line that starts
 // with `given` has steps that stand before those of each case below it, up to the next such line. All other lines, as remarks (`#`)
 // and empty ones, are only copied. The table may have 65,536 bytes.
+#![tactic(auto)]
+
 mod ends;
 mod print;
 

@@ -8,6 +8,8 @@
 // the labels of the first level are followed at the start state, and those of each further one at all states that the level before it leads
 // to. There may be 16 levels. A state is written as four numbers: its threads, the private names made, its aliases and its nodes. A line
 // without two `:`, and a remark (`#`), is passed over. The table may have 65,536 bytes.
+#![tactic(auto)]
+
 mod ask;
 mod follow;
 mod label;

@@ -1,4 +1,6 @@
 // The text of the tables that the test programs run: lines, digits, and the bytes that they spell.
+#![tactic(auto)]
+
 pub mod hex;
 pub mod spell;
 pub mod text;

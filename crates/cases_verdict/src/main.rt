@@ -10,6 +10,8 @@
 // Behind `1`, `2` and `f` a byte is two digits, 0 to 9 or A to F. `[07 00]12 ` is what stands in the brackets twelve times; the
 // number has at most four digits and ends with a blank or with the line. Brackets do not nest, and other characters are passed
 // over. A slice may have 4,300 bytes, the table 65,536.
+#![tactic(auto)]
+
 mod lengths;
 mod print;
 mod run;

@@ -1,5 +1,7 @@
 // Reading models and formulas from bytes: the refusals 1 to 8 with their places, or the end of what stands there
 // ("Bytes"; "Turned back for the input").
+#![tactic(auto)]
+
 mod formula;
 mod process;
 

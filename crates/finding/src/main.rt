@@ -1,5 +1,7 @@
 // Judges the finding in the folder where it is run: first.bin, second.bin and formula.bin, with a budget of 1,000,000 visits. It writes the
 // four numbers of the verdict in decimal, one space between, and then a newline ("Judged by hand").
+#![tactic(auto)]
+
 ghost use Rattle.std.specs.Prelude.{◌≤◌, length};
 
 use libc::STDOUT_FILENO;

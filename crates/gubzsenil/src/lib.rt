@@ -1,4 +1,6 @@
 // The verdict on a finding: four numbers, and the work bytes ("Turned back for the input"; "Turned back for the state").
+#![tactic(auto)]
+
 ghost use Rattle.gubzsenil.specs.Verdict.{Promise};
 
 use decode_layout::limit;

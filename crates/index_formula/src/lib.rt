@@ -1,2 +1,4 @@
 // The index of a formula ("Bytes", the formula kinds).
+#![tactic(auto)]
+
 pub mod index;

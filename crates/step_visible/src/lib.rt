@@ -1,2 +1,4 @@
 // The next output or input with a label ("Steps").
+#![tactic(auto)]
+
 pub mod labelled;

@@ -49,7 +49,7 @@ numbers_read {s} {at} (x ∷ xs) zero h p =
 numbers_read {s} {at} (x ∷ xs) (suc i) h p =
     let (mid, k, q) = parts (encode_word x) (row encode_word xs ∷ []) p in
     let next : at + 2 * suc i ≡ mid + 2 * i = omega (arith, word_end x k) in
-    rw next (numbers_read xs i (omega arith) q)
+    rw next (numbers_read {at = mid} xs i (omega arith) q)
 
 -- A byte of bytes that stand at a position.
 byte_read : {s : List ℕ} {at end : ℕ} (xs : List ℕ) (i : ℕ) → i < length xs → Stands s at xs end → get_or s (at + i) 0 ≡ get_or xs i 0
@@ -60,7 +60,7 @@ byte_read {at} (x ∷ xs) zero h p =
 byte_read {at} (x ∷ xs) (suc i) h p =
     let (mid, k, q) = parts (x ∷ []) (xs ∷ []) p in
     let next : at + suc i ≡ mid + i = omega (arith, k.size) in
-    rw next (byte_read xs i (omega arith) q)
+    rw next (byte_read {at = mid} xs i (omega arith) q)
 
 -- The two parts of an entry.
 module _ (s : List ℕ) (at : ℕ) (e : Entry) (n : EntryOf s at e) where

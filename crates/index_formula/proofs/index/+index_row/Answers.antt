@@ -9,12 +9,14 @@ pub index-returns-then-left-eq0-clause-indexes : goal.index-returns-then-left-eq
 index-returns-then-left-eq0-clause-indexes t c = search (rules, unchanged, indexing, one_after, rows)
 
 pub index-returns-then-at-ge-SLICE-clause-indexes :
+    goal.index-returns-then-at-ge-SLICE-clause-indexes
 index-returns-then-at-ge-SLICE-clause-indexes t c = search (rules, unchanged, indexing, one_after, rows)
 
 pub index-returns-clause-indexes : goal.index-returns-clause-indexes
 index-returns-clause-indexes t c = search (rules, unchanged, indexing, one_after, rows)
 
 pub row-returns-then-count-eq1-clause-indexes_row :
+    goal.row-returns-then-count-eq1-clause-indexes_row
 row-returns-then-count-eq1-clause-indexes_row t c = search (rules, unchanged, indexing, one_after, rows)
 
 pub row-returns-clause-indexes_row : goal.row-returns-clause-indexes_row

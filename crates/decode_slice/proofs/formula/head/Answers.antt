@@ -1,0 +1,24 @@
+-- `decode_slice::formula::head` meets its contract, by the laws of heads.
+use Rattle.std.proofs.Common.{rules}
+use Rattle.decode_term.proofs.Laws.Headed.{listed}
+use Rattle.decode_term.proofs.Laws.Head.{heads}
+use Rattle.decode_slice.proofs.Laws.Room.{rooms}
+use Rattle.decode_slice.proofs.formula.head.Goals as goal
+
+pub formula-kind-requires : goal.formula-kind-requires
+formula-kind-requires c = search (rules, listed, heads, rooms)
+
+pub returns-then-left-eq0 : goal.returns-then-left-eq0
+returns-then-left-eq0 c = search (rules, listed, heads, rooms)
+
+pub returns-then-not-room : goal.returns-then-not-room
+returns-then-not-room c = search (rules, listed, heads, rooms)
+
+pub returns-in-Ends : goal.returns-in-Ends
+returns-in-Ends c = search (rules, listed, heads, rooms)
+
+pub returns-in-Refused-fields : goal.returns-in-Refused-fields
+returns-in-Refused-fields c = search (rules, listed, heads, rooms)
+
+pub returns-in-Refused : goal.returns-in-Refused
+returns-in-Refused c = search (rules, listed, heads, rooms)
