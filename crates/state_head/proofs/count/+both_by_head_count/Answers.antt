@@ -1,0 +1,25 @@
+-- The private names of a process are counted: `state_head::count::count`, `by_head` and `both`, for a par, call each other. The measure is the
+-- number of process nodes left, three steps to a node.
+use Rattle.std.proofs.Common.{rules}
+use Rattle.state_progress.proofs.Laws.Progress.{to_ends}
+use Rattle.state_head.proofs.Laws.Count.{pars_counted, heads_counted}
+use Rattle.state_head.proofs.Laws.Head.{rooms}
+use Rattle.buffer.proofs.Laws.Buffer.{unchanged}
+use Rattle.state_head.proofs.Laws.Fixed.{fixed_ones}
+use Rattle.state_head.proofs.count.+both_by_head_count.Goals as goal
+
+pub both-returns-in-Names-clause-counts_if : goal.both-returns-in-Names-clause-counts_if
+both-returns-in-Names-clause-counts_if t c = search (rules, to_ends, pars_counted, rooms, heads_counted, unchanged, fixed_ones)
+
+pub both-returns-in-OverLimit-clause-counts_if : goal.both-returns-in-OverLimit-clause-counts_if
+both-returns-in-OverLimit-clause-counts_if t c = search (rules, to_ends, pars_counted, rooms, heads_counted, unchanged, fixed_ones)
+
+pub by_head-returns-then-wide-eq-PAR-clause-counts :
+    goal.by_head-returns-then-wide-eq-PAR-clause-counts
+by_head-returns-then-wide-eq-PAR-clause-counts t c = search (rules, to_ends, pars_counted, rooms, heads_counted, unchanged, fixed_ones)
+
+pub by_head-returns-then-going-clause-counts : goal.by_head-returns-then-going-clause-counts
+by_head-returns-then-going-clause-counts t c = search (rules, to_ends, pars_counted, rooms, heads_counted, unchanged, fixed_ones)
+
+pub by_head-returns-clause-counts : goal.by_head-returns-clause-counts
+by_head-returns-clause-counts t c = search (rules, to_ends, pars_counted, rooms, heads_counted, unchanged, fixed_ones)

@@ -1,0 +1,13 @@
+-- `state_head::head::descend` meets its contract. The loop goes one node down at a turn.
+use Rattle.buffer.specs.Buffer.{Within}
+use Rattle.std.proofs.Common.{◌≤◌, ◌<◌, length, ◌≡◌, ℕ, ◌+◌, ◌-◌, ◌*◌}
+use Rattle.buffer.specs.Buffer.{WrittenFrom}
+use Rattle.state_head.specs.Head.{StopsAt, Arrives, HasByte, HasRoom, DescendsIf, DescendsFrom, IsPassed, Descends, Settled, RoomAtNode, BoundFits}
+use Rattle.state_head.proofs.head.descend.Given as goal
+
+abbrev pub invariant-loop-m : goal.invariant-loop-m
+invariant-loop-m l = (l.head.left ≤ l.left) × (l.end ≤ l.head.end) × Within l.end (length l.initial.m) l.initial.m l.m × HasRoom l.s (length l.m) l.head
+    × Descends l.s l.at l.left l.initial.m l.end l.names l.head l.m
+
+abbrev pub decreases-loop-m : goal.decreases-loop-m
+decreases-loop-m l = l.head.left
