@@ -139,8 +139,8 @@ beside_laws {B} {C} apart b c = record {
   offered = λ k.
       offers_append k B.threads C.threads
       ∙ ap₂ (λ u v. map (placed (λ z. z ++ C.threads)) u ++ map (placed (λ z. B.threads ++ z)) v) (b.offered k) (c.offered k)
-      ∙ ap₂ ◌++◌ (placed_located _ _ _ (b.within k) (λ x i z. ap (λ r. B.put x z k ++ r) (c.still x z k (apart x i))))
-      (placed_located _ _ _ (c.within k) (λ x i z. ap (λ r. r ++ C.put x z k) (b.still x z k (λ o. apart x o i))))
+      ∙ ap₂ ◌++◌ (placed_located (λ z. z ++ C.threads) _ _ (b.within k) (λ x i z. ap (λ r. B.put x z k ++ r) (c.still x z k (apart x i))))
+      (placed_located (λ z. B.threads ++ z) (λ x z. C.put x z k) _ (c.within k) (λ x i z. ap (λ r. r ++ C.put x z k) (b.still x z k (λ o. apart x o i))))
       ∙ sym (map-append _ (B.offering k) (C.offering k));
   still = λ x z k out. ap₂ ◌++◌ (b.still x z k (λ i. out (inl i))) (c.still x z k (λ i. out (inr i)));
   everyone = λ x k out. ap₂ ◌++◌ (b.everyone x k (λ i. out (inl i))) (c.everyone x k (λ i. out (inr i)));

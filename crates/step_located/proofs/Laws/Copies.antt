@@ -111,6 +111,7 @@ module _ {A : Type 0} where
 
   pub split_single : {t u : A} {l r : List A} → Split (t ∷ []) l u r → (t ≡ u) × (r ≡ [])
   split_single here = (refl, refl)
+  split_single (there s) = elim s [ ]
 
   pub split_at : (l : List A) {t : A} {r ts : List A} → ts ≡ l ++ (t ∷ r) → Split ts l t r
   split_at l {t} {r} e = rw e (whole l)

@@ -110,8 +110,8 @@ joints_located (Process.let_in M P) at ρ n k = joints_located P _ _ n k
 joints_located (Process.par P Q) at ρ n k =
     let m = names P ρ n in
     among_append framed silent_of k framed_twice framed_same (settle P ρ n) (settle Q ρ m)
-    ∙ ap₂ ◌++◌ (part_joints P (at + 1) ρ n k (joints_located P _ ρ n k) _ _ (λ x e z. replaced_left x z P at ρ n k Q e))
-    (part_joints Q (right_at at P) ρ m k (joints_located Q _ ρ m k) _ _ (λ x e z. replaced_right x z P at ρ n k Q e))
+    ∙ ap₂ ◌++◌ (part_joints P (at + 1) ρ n k (joints_located P _ ρ n k) (λ z. z ++ settle Q ρ m) _ (λ x e z. replaced_left x z P at ρ n k Q e))
+    (part_joints Q (right_at at P) ρ m k (joints_located Q _ ρ m k) (λ z. settle P ρ n ++ z) _ (λ x e z. replaced_right x z P at ρ n k Q e))
     ∙ sym (map-append _ (copy_steps P (at + 1) ρ n k) _)
 joints_located (Process.repl P) at ρ n k =
     let m = names P ρ k in

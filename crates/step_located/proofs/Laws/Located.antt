@@ -296,8 +296,8 @@ offers_located (Process.let_in M P) at ρ n k = offers_located P _ _ n k
 offers_located (Process.par P Q) at ρ n k =
     let m = names P ρ n in
     offers_append k (settle P ρ n) (settle Q ρ m)
-    ∙ ap₂ ◌++◌ (part_offers P (at + 1) ρ n k (offers_located P _ ρ n k) _ _ (λ x e z. replaced_left x z P at ρ n k Q e))
-    (part_offers Q (right_at at P) ρ m k (offers_located Q _ ρ m k) _ _ (λ x e z. replaced_right x z P at ρ n k Q e))
+    ∙ ap₂ ◌++◌ (part_offers P (at + 1) ρ n k (offers_located P _ ρ n k) (λ z. z ++ settle Q ρ m) _ (λ x e z. replaced_left x z P at ρ n k Q e))
+    (part_offers Q (right_at at P) ρ m k (offers_located Q _ ρ m k) (λ z. settle P ρ n ++ z) _ (λ x e z. replaced_right x z P at ρ n k Q e))
     ∙ sym (map-append _ (located_offers P (at + 1) ρ n k) _)
 offers_located (Process.repl P) at ρ n k =
     let m = names P ρ k in

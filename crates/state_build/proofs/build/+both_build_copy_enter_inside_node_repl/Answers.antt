@@ -1,0 +1,56 @@
+-- The traversal that builds meets its contract: `state_build::build::build` and the functions for a head, a par, a repl thread and its copy call each
+-- other. The measure is the number of process nodes left, seven steps to a node.
+use Rattle.std.proofs.Common.{rules}
+use Rattle.state_progress.proofs.Laws.Progress.{extensions, to_ends, records_ends}
+use Rattle.state_head.proofs.Laws.Traverse.{par_traversed, traverses, nodes}
+use Rattle.buffer.proofs.Laws.Buffer.{unchanged}
+use Rattle.state_head.proofs.Laws.Head.{rooms}
+use Rattle.state_build.proofs.Laws.Build.{copy_built, builts, is_act, repl_built}
+use Rattle.state_head.proofs.Laws.Copy.{copies, names_back}
+use Rattle.state_build.proofs.build.+both_build_copy_enter_inside_node_repl.Goals as goal
+
+pub both-returns-clause-leaves : goal.both-returns-clause-leaves
+both-returns-clause-leaves t c = search (rules, extensions, to_ends, records_ends, par_traversed, unchanged, traverses, rooms, copy_built, copies, builts, names_back, nodes, is_act, repl_built)
+
+pub both-returns-clause-traverses_if : goal.both-returns-clause-traverses_if
+both-returns-clause-traverses_if t c = search (rules, extensions, to_ends, records_ends, par_traversed, unchanged, traverses, rooms, copy_built, copies, builts, names_back, nodes, is_act, repl_built)
+
+pub build-returns-then-there-clause-traverses : goal.build-returns-then-there-clause-traverses
+build-returns-then-there-clause-traverses t c = search (rules, extensions, to_ends, records_ends, par_traversed, unchanged, traverses, rooms, copy_built, copies, builts, names_back, nodes, is_act, repl_built)
+
+pub build-returns-clause-traverses : goal.build-returns-clause-traverses
+build-returns-clause-traverses t c = search (rules, extensions, to_ends, records_ends, par_traversed, unchanged, traverses, rooms, copy_built, copies, builts, names_back, nodes, is_act, repl_built)
+
+pub copy-returns-in-Names-clause-opens : goal.copy-returns-in-Names-clause-opens
+copy-returns-in-Names-clause-opens t c = search (rules, extensions, to_ends, records_ends, par_traversed, unchanged, traverses, rooms, copy_built, copies, builts, names_back, nodes, is_act, repl_built)
+
+pub copy-returns-in-OverLimit-clause-opens : goal.copy-returns-in-OverLimit-clause-opens
+copy-returns-in-OverLimit-clause-opens t c = search (rules, extensions, to_ends, records_ends, par_traversed, unchanged, traverses, rooms, copy_built, copies, builts, names_back, nodes, is_act, repl_built)
+
+pub enter-returns-then-contains-clause-opens_built :
+    goal.enter-returns-then-contains-clause-opens_built
+enter-returns-then-contains-clause-opens_built t c = search (rules, extensions, to_ends, records_ends, par_traversed, unchanged, traverses, rooms, copy_built, copies, builts, names_back, nodes, is_act, repl_built)
+
+pub enter-returns-then-sender-eq0-clause-opens_built :
+    goal.enter-returns-then-sender-eq0-clause-opens_built
+enter-returns-then-sender-eq0-clause-opens_built t c = search (rules, extensions, to_ends, records_ends, par_traversed, unchanged, traverses, rooms, copy_built, copies, builts, names_back, nodes, is_act, repl_built)
+
+pub enter-returns-then-contains-2-clause-opens_built :
+    goal.enter-returns-then-contains-2-clause-opens_built
+enter-returns-then-contains-2-clause-opens_built t c = search (rules, extensions, to_ends, records_ends, par_traversed, unchanged, traverses, rooms, copy_built, copies, builts, names_back, nodes, is_act, repl_built)
+
+pub enter-returns-clause-opens_built : goal.enter-returns-clause-opens_built
+enter-returns-clause-opens_built t c = search (rules, extensions, to_ends, records_ends, par_traversed, unchanged, traverses, rooms, copy_built, copies, builts, names_back, nodes, is_act, repl_built)
+
+pub node-returns-then-kind-eq-NIL-clause-head_traverses :
+    goal.node-returns-then-kind-eq-NIL-clause-head_traverses
+node-returns-then-kind-eq-NIL-clause-head_traverses t c = search (rules, extensions, to_ends, records_ends, par_traversed, unchanged, traverses, rooms, copy_built, copies, builts, names_back, nodes, is_act, repl_built)
+
+pub node-returns-clause-head_traverses : goal.node-returns-clause-head_traverses
+node-returns-clause-head_traverses t c = search (rules, extensions, to_ends, records_ends, par_traversed, unchanged, traverses, rooms, copy_built, copies, builts, names_back, nodes, is_act, repl_built)
+
+pub repl-returns-clause-leaves : goal.repl-returns-clause-leaves
+repl-returns-clause-leaves t c = search (rules, extensions, to_ends, records_ends, par_traversed, unchanged, traverses, rooms, copy_built, copies, builts, names_back, nodes, is_act, repl_built)
+
+pub repl-returns-clause-traverses_if : goal.repl-returns-clause-traverses_if
+repl-returns-clause-traverses_if t c = search (rules, extensions, to_ends, records_ends, par_traversed, unchanged, traverses, rooms, copy_built, copies, builts, names_back, nodes, is_act, repl_built)
