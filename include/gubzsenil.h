@@ -1,7 +1,7 @@
 /*
  * Gubzsenil: judges a finding, a formula said to be true of one model and false of another.
  *
- * Build the library with `rt staticlib gubzsenil`, then link it on x86-64 Linux:
+ * Build the library with `tools/build --for desk library`, then link it on x86-64 Linux:
  *
  *     cc -Iinclude examples/desk.c target/staticlib/libgubzsenil.a -o desk
  *

@@ -1,4 +1,4 @@
-//! Links the library's static archive, which `rt staticlib gubzsenil` builds.
+//! Links the library's static archive, which `tools/build` has rt build.
 
 use std::path::Path;
 
@@ -7,9 +7,7 @@ fn main() {
     let archive = folder.join("libgubzsenil.a");
     println!("cargo:rerun-if-changed={}", archive.display());
     if !archive.exists() {
-        panic!(
-            "target/staticlib/libgubzsenil.a is missing: run `rt staticlib gubzsenil` at the repository's root first"
-        );
+        panic!("target/staticlib/libgubzsenil.a is missing: run `tools/build --for library library` first");
     }
     println!("cargo:rustc-link-search=native={}", folder.display());
     println!("cargo:rustc-link-lib=static=gubzsenil");

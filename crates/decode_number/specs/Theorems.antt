@@ -1,5 +1,5 @@
 -- The theorems on numbers ("Bytes", first paragraph) and answers ("Turned back for the input"). Their proofs are in
--- proofs/Theorems.antt, under the same names with a small first letter.
+-- proofs/Theorems.antt, under the same names in snake case.
 use Rattle.std.specs.Prelude.{◌≡◌, List, ℕ}
 use Rattle.decode_number.specs.declared.answer.Answer.{Answer}
 use Rattle.decode_number.specs.declared.number.Numeral.{Numeral}

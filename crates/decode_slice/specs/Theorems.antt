@@ -1,5 +1,5 @@
 -- The theorems on the answers of the readers ("Turned back for the input"). Their proofs are in proofs/Theorems.antt, under the
--- same names with a small first letter.
+-- same names in snake case.
 use Rattle.std.specs.Prelude.{◌≡◌, List, ℕ}
 use Rattle.meaning.specs.Bytes.WellFormed.{Bytes}
 use Rattle.meaning.specs.Bytes.Reading.{read_model, read_formula}

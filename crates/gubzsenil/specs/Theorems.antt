@@ -1,5 +1,5 @@
 -- The theorems on everything that a call may answer ("Turned back for the state"): whatever answer r and work bytes after keep the
--- promise. Their proofs are in proofs/Theorems.antt, under the same names with a small first letter.
+-- promise. Their proofs are in proofs/Theorems.antt, under the same names in snake case.
 use Rattle.std.specs.Prelude.{◌≡◌, ◌↔◌, List, ℕ, length}
 use Rattle.meaning.specs.Bytes.Process.{Process}
 use Rattle.meaning.specs.Bytes.WellFormed.{IsModel}

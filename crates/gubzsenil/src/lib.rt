@@ -11,8 +11,7 @@ use verdict_state::models;
 
 // The verdict on two models and a formula, with a work buffer and a budget of visits. What it promises of the four numbers and of every
 // work byte is in specs/Verdict.antt, and what follows from that in specs/Theorems.antt.
-#[unsafe(no_mangle)]
-pub extern "C" fn gubzsenil_verdict(
+pub fn gubzsenil_verdict(
     first: &[u8],
     second: &[u8],
     formula: &[u8],

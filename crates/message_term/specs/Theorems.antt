@@ -1,5 +1,5 @@
 -- The theorems on bound messages and terms in bytes ("Steps"; "Messages"). Their proofs are in proofs/Theorems.antt, under the same names
--- with a small first letter.
+-- in snake case.
 use Rattle.std.specs.Prelude.{◌≡◌, List, ℕ, ◌+◌, ◌*◌, ◌≤◌, ◌<◌, length}
 use Rattle.meaning.specs.Messages.Term.{Term, Message}
 use Rattle.meaning.specs.Messages.Equation.{Normal}

@@ -1,5 +1,5 @@
--- The theorems on positions of offers ("Steps"). Their proofs are in proofs/Laws/Located.antt and CopyStep.antt, under the same names with
--- a small first letter.
+-- The theorems on positions of offers ("Steps"). Their proofs are in proofs/Laws/Located.antt and CopyStep.antt, under the same names in
+-- snake case.
 use Rattle.std.specs.Prelude.{ℕ, ◌≡◌, [], ◌∷◌, ◌++◌, map}
 use Rattle.meaning.specs.Bytes.Process.{Process}
 use Rattle.meaning.specs.Steps.State.{Bound, repl, settle}

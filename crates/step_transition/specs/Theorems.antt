@@ -1,5 +1,5 @@
 -- The theorems on the moves of a list of threads ("Steps"; "Judging and its count"): they are the steps of the definitions, one by one and
--- in the same order. Their proofs are in proofs/Laws/Moves.antt and MovesSilent.antt, under the same names with a small first letter.
+-- in the same order. Their proofs are in proofs/Laws/Moves.antt and MovesSilent.antt, under the same names in snake case.
 use Rattle.std.specs.Prelude.{◌≡◌, true, false, List, map}
 use Rattle.meaning.specs.Messages.Term.{Recipe, Message}
 use Rattle.meaning.specs.Bytes.Formula.{Label}

@@ -3,6 +3,7 @@
 use notation::folder::{load, quoted};
 use std::ffi::OsStr;
 use std::fs;
+use std::ops::Deref;
 use std::os::unix::ffi::OsStrExt;
 use std::os::unix::fs::{symlink, PermissionsExt};
 use std::path::{Path, PathBuf};
@@ -12,13 +13,30 @@ use std::time::Duration;
 
 const FINDING: &str = "# It shows nothing.\nnames c = 0\nfirst nil\nsecond out(c, c)\nformula not <out c _> true\n";
 
+/// A folder for one test, gone when the test ends: `rt ci` takes no checkout with links in it.
+struct Folder(PathBuf);
+
+impl Deref for Folder {
+    type Target = PathBuf;
+
+    fn deref(&self) -> &PathBuf {
+        &self.0
+    }
+}
+
+impl Drop for Folder {
+    fn drop(&mut self) {
+        let _ = fs::remove_dir_all(&self.0);
+    }
+}
+
 /// A folder of this name, which holds nothing but `finding.txt`.
-fn folder(name: &str, finding: &str) -> PathBuf {
+fn folder(name: &str, finding: &str) -> Folder {
     let path = PathBuf::from(env!("CARGO_TARGET_TMPDIR")).join(name);
     let _ = fs::remove_dir_all(&path);
     fs::create_dir_all(&path).expect("a folder for the test");
     fs::write(path.join("finding.txt"), finding).expect("a finding for the test");
-    path
+    Folder(path)
 }
 
 fn encode(arguments: &[&str]) -> Output {
@@ -120,7 +138,7 @@ fn writes_all_three_files_or_none() {
     assert_eq!(output.status.code(), Some(1));
     assert!(said(&output).contains("formula.bin: it is no file; nothing is written"), "{}", said(&output));
     assert_eq!(fs::read(path.join("first.bin")).ok(), Some(vec![0]));
-    assert_eq!(fs::read_dir(&path).expect("the folder").count(), 4);
+    assert_eq!(fs::read_dir(&*path).expect("the folder").count(), 4);
 }
 
 /// Files that may not be written to are left alone, all three; those that may keep their rights.
@@ -165,7 +183,7 @@ fn links_to_files() {
     assert!(encode(&[name]).status.success());
     assert_eq!(fs::read(elsewhere.join("kept.bin")).ok(), Some(vec![0]));
     assert!(fs::symlink_metadata(path.join("first.bin")).expect("a link").is_symlink());
-    assert_eq!(fs::read_dir(&elsewhere).expect("the folder").count(), 2);
+    assert_eq!(fs::read_dir(&*elsewhere).expect("the folder").count(), 2);
 }
 
 /// Files that lead to each other, or to the text, are left alone.
@@ -201,7 +219,7 @@ fn waits_for_its_turn() {
     let path = folder("turn", FINDING);
     let text = fs::File::open(path.join("finding.txt")).expect("the text");
     text.lock().expect("a lock");
-    let mut waiting = Command::new(env!("CARGO_BIN_EXE_encode")).arg(&path).spawn().expect("encode runs");
+    let mut waiting = Command::new(env!("CARGO_BIN_EXE_encode")).arg(&*path).spawn().expect("encode runs");
     sleep(Duration::from_millis(300));
     assert!(waiting.try_wait().expect("its state").is_none() && !path.join("first.bin").exists());
     fs::write(path.join("finding.txt"), "first repl nil second nil formula true").expect("another finding");
@@ -218,7 +236,7 @@ fn what_was_left_behind() {
     symlink("victim", path.join(".first.bin.encode-new")).expect("a link");
     fs::write(path.join(".second.bin.encode-old"), [1]).expect("something left");
     assert!(encode(&[path.to_str().expect("a path in UTF-8")]).status.success());
-    assert_eq!(fs::read_dir(&path).expect("the folder").count(), 5);
+    assert_eq!(fs::read_dir(&*path).expect("the folder").count(), 5);
     assert_eq!(fs::read_to_string(path.join("victim")).ok().as_deref(), Some("kept"));
 }
 
