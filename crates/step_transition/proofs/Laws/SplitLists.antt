@@ -58,6 +58,7 @@ module _ {A B : Type 0} where
 
   pub split_map : (f : A → B) (xs : List A) {l r : List B} {v : B} → Split (map f xs) l v r
       → (l' : List A) × (x : A) × (r' : List A) × Split xs l' x r' × (v ≡ f x) × (r ≡ map f r')
+  split_map f [] s = elim s [ ]
   split_map f (x ∷ xs) here = ([], x, xs, here, refl, refl)
   split_map f (x ∷ xs) (there s) =
       let (l, y, r, t, e, g) = split_map f xs s in
@@ -109,6 +110,7 @@ since_not x a xs lt = rw (lt-ltb a.place x lt, filter)
 -- From that of one of them on, and from behind it on.
 since_place : {low : ℕ} {xs l r : List LocatedOffer} {a : LocatedOffer} → Increasing low xs → Split xs l a r
     → (filter (at_least a.place) xs ≡ a ∷ r) × (filter (at_least (a.place + 1)) xs ≡ r)
+since_place (end {low = low}) s = elim s [ ]
 since_place {a} (first {xs} l h) here = (
   since_here a.place a xs (le_refl _) ∙ ap (λ r. a ∷ r) (since_all (omega arith) h),
   since_not (a.place + 1) a xs (omega arith) ∙ since_all (le_refl _) h,

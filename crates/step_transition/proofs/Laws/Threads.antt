@@ -41,7 +41,7 @@ threads_from {s} {out} {at} {k} {end} [] ts h = subst (λ (n : ℕ). Threads s o
 threads_from {s} {out} {at} {k} {end} (l ∷ ls) ts h =
     let (p, j, rest) = first_thread l (ls ++ ts) h in
     let size = length-append (encode_record l) (encode_records ls) in
-    subst (λ (n : ℕ). Threads s out n k ts end) (omega (arith, size)) (threads_from ls ts rest)
+    subst (λ (n : ℕ). Threads s out n k ts end) (omega (arith, size)) (threads_from {at = at + length (encode_record l)} ls ts rest)
 
 -- A record takes at least four bytes, before the end of the state.
 pub record_end : {s out : List ℕ} {at k end : ℕ} (t : Placed) (ts : List Placed) → Threads s out at k (t ∷ ts) end
