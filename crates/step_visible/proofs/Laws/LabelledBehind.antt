@@ -46,9 +46,9 @@ moves_offered sending x {k} js = every_flat_map (offered sending x k) (every_map
         (acting_allowed _ p.thread.place _ 0 k (judged_clear p.thread 0 j))))
 
 -- Nothing is seen exactly where there is no move.
-pub unseen_none : {sending : Bool} {x : Message} (start : ℕ) {ws : List Move} → Every (Offered sending x) ws → sight_of start ws ≡ unseen → ws ≡ []
-unseen_none start none e = refl
-unseen_none {sending} {x} start (◌also◌ {x = w} {xs = ws} o os) e = of w o e
+pub unseen_none : (sending : Bool) (x : Message) (start : ℕ) {ws : List Move} → Every (Offered sending x) ws → sight_of start ws ≡ unseen → ws ≡ []
+unseen_none sending x start none e = refl
+unseen_none sending x start (◌also◌ {x = w} {xs = ws} o os) e = of w o e
   where
     of : (w : Move) → Offered sending x w → sight_of start (w ∷ ws) ≡ unseen → w ∷ ws ≡ []
     of (alone p a) o e = absurd (let z : ◌≡◌ {A = ℕ} 0 1 = cc in omega arith)
