@@ -1,0 +1,17 @@
+-- `step_copies::copy_step::copy_step`, `begin` and `pass` meet their contracts. The measure is the number of bytes of the records to come, and then how
+-- many times one copy or two of a repl thread are still looked at.
+use Rattle.std.proofs.Common.{◌+◌, ◌≤◌, length, ◌≡◌, ℕ, ◌-◌, ◌*◌, ◌<◌}
+use Rattle.buffer.specs.Buffer.{SameLength, WrittenFrom}
+use Rattle.step_copies.specs.CopyStep.{NoSilent, Finds, NextInCopies, NextAfterCopies}
+use Rattle.index_process.specs.Index.{ShortModel}
+use Rattle.state_layout.specs.Layout.{RecordFits, RecordsFit}
+use Rattle.step_copies.proofs.copy_step.+begin_copy_step_pass.Given as goal
+
+abbrev pub decreases-begin : goal.decreases-begin
+decreases-begin l = 20000 * (l.to - l.at) + 3 * l.left + 2
+
+abbrev pub decreases-copy_step : goal.decreases-copy_step
+decreases-copy_step l = 20000 * (l.to - l.at) + 3 * l.left
+
+abbrev pub decreases-pass : goal.decreases-pass
+decreases-pass l = 20000 * (l.to - l.at) + 3 * l.left + 1

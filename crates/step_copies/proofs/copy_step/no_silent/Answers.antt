@@ -1,0 +1,10 @@
+-- `step_copies::copy_step::no_silent` meets its contract.
+use Rattle.std.proofs.Common.{rules}
+use Rattle.step_copies.proofs.Laws.NoSilent.{no_silents}
+use Rattle.step_copies.proofs.copy_step.no_silent.Goals as goal
+
+pub returns-then-last-eq0 : goal.returns-then-last-eq0
+returns-then-last-eq0 c = search (rules, no_silents)
+
+pub returns-then-last-eq0-2 : goal.returns-then-last-eq0-2
+returns-then-last-eq0-2 c = search (rules, no_silents)
