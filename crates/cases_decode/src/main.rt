@@ -7,58 +7,54 @@
 // have 65,536 bytes.
 #![tactic(auto)]
 
-use cases_text::{spell, text};
+use cases_text::{input, spell, text};
 use decode_number::answer;
 use decode_number::answer::Answer;
-use libc::{STDIN_FILENO, STDOUT_FILENO};
+use std::io;
 
-fn main() {
-    let mut table = io::large_buffer();
-    let n = io::read_full(STDIN_FILENO, &mut table);
-    each_line(&table[..n]);
+fn main(rt: HostRuntime) -> io::Result<()> {
+    let mut table = [0u8; input::TABLE];
+    let n = input::read_full(&mut rt.stdin(), &mut table)?;
+    each_line(&rt, &table[..n])
 }
 
-fn each_line(table: &[u8]) {
+fn each_line(rt: &impl Print, table: &[u8]) -> io::Result<()> {
     let mut start = 0;
     while start < table.len() {
         let end = text::find(table, start, b'\n');
-        answer_line(&table[start..end]);
+        answer_line(rt, &table[start..end])?;
         start = end + 1;
     }
+    Ok(())
 }
 
 // Writes the line and, if it has a slice, the answer.
-fn answer_line(line: &[u8]) {
-    io::write_all(STDOUT_FILENO, line);
+fn answer_line(rt: &impl Print, line: &[u8]) -> io::Result<()> {
+    rt.write_all(line)?;
     if 0 < line.len() {
-        answer_case(line, line[0]);
+        answer_case(rt, line, line[0])?;
     }
-    io::write_all(STDOUT_FILENO, b"\n");
+    rt.write_all(b"\n")
 }
 
 // The first letter says which reader is asked, if any.
-fn answer_case(line: &[u8], sort: u8) {
+fn answer_case(rt: &impl Print, line: &[u8], sort: u8) -> io::Result<()> {
     let mut out = [0u8; 4300];
     let n = spell::spell(line, &mut out);
     let s = &out[0..n];
     match sort {
-        b'm' => print(decode_slice::read_model(s)),
-        b'f' => print(decode_slice::read_formula(s)),
-        _ => {}
+        b'm' => print(rt, decode_slice::read_model(s)),
+        b'f' => print(rt, decode_slice::read_formula(s)),
+        _ => Ok(()),
     }
 }
 
-fn print(a: Answer) {
+fn print(rt: &impl Print, a: Answer) -> io::Result<()> {
     match a {
-        Answer::Ends(end) => {
-            io::write_all(STDOUT_FILENO, b" : ends at ");
-            io::print_decimal(STDOUT_FILENO, end as u64);
-        }
+        Answer::Ends(end) => print!(rt; " : ends at {end}"),
         Answer::Refused(why, place) => {
-            io::write_all(STDOUT_FILENO, b" : refused ");
-            io::print_decimal(STDOUT_FILENO, answer::code(why) as u64);
-            io::write_all(STDOUT_FILENO, b" at ");
-            io::print_decimal(STDOUT_FILENO, place as u64);
+            let number = answer::code(why);
+            print!(rt; " : refused {number} at {place}")
         }
     }
 }

@@ -4,6 +4,7 @@ use buffer::word;
 use cases_text::{hex, text};
 use message_binding::bind;
 use message_term::work::Worked;
+use std::io;
 
 // The bytes for bound messages, and the last position at which one more has room: `bind::term` asks for `bind::REACH` bytes.
 pub(crate) const SPACE: usize = 16384;
@@ -37,28 +38,34 @@ impl Ends {
     }
 
     // Takes one step: a private name, or a term.
-    pub(crate) fn bind(self, step: &[u8], number: usize, m: &mut [u8; SPACE]) -> Taken {
+    pub(crate) fn bind(
+        self,
+        rt: &impl Print,
+        step: &[u8],
+        number: usize,
+        m: &mut [u8; SPACE],
+    ) -> io::Result<Taken> {
         let mut bytes = [0u8; 512];
         let n = hex::spell(step, &mut bytes);
         let end = self.end;
         if LAST_START < end {
-            return stop(b" : no room in step ", number);
+            return stop(rt, " : no room in step ", number);
         }
         if text::find(step, 0, b'n') < step.len() {
             let name = name_of(&bytes[0..n], self.names);
             if bind::LAST_NAME < name {
-                return stop(b" : no name in step ", number);
+                return stop(rt, " : no name in step ", number);
             }
-            return Taken::Bound(self.and(bind::name(m, end, name), name + 1));
+            return Ok(Taken::Bound(self.and(bind::name(m, end, name), name + 1)));
         }
         match bind::term(&bytes[0..n], 0, m, 0, end) {
             Worked::Done(next, last) => {
                 if next != n {
-                    return stop(b" : bytes left over in step ", number);
+                    return stop(rt, " : bytes left over in step ", number);
                 }
-                Taken::Bound(self.and(last, self.names))
+                Ok(Taken::Bound(self.and(last, self.names)))
             }
-            Worked::TooLarge => stop(b" : too large in step ", number),
+            Worked::TooLarge => stop(rt, " : too large in step ", number),
         }
     }
 
@@ -73,23 +80,23 @@ impl Ends {
     }
 
     // Writes what is asked of the last message or of the last two.
-    pub(crate) fn answer(self, m: &[u8], word: u8) {
+    pub(crate) fn answer(self, rt: &impl Print, m: &[u8], word: u8) -> io::Result<()> {
         let last = message(m, self.last, self.end);
         match word {
-            b'e' => print::equal(message(m, self.before, self.last), last),
-            b's' => print::size(last),
+            b'e' => print::equal(rt, message(m, self.before, self.last), last),
+            b's' => print::size(rt, last),
             _ => {
-                print::size(last);
-                print::nodes(last);
+                print::size(rt, last)?;
+                print::nodes(rt, last)
             }
         }
     }
 }
 
 // Writes why a step is not taken.
-fn stop(why: &[u8], number: usize) -> Taken {
-    print::number(why, number);
-    Taken::Stopped
+fn stop(rt: &impl Print, why: &str, number: usize) -> io::Result<Taken> {
+    print::number(rt, why, number)?;
+    Ok(Taken::Stopped)
 }
 
 // The number of a private name: the one that is written, if any, in one byte or in two, the lower one first; else the next.

@@ -13,73 +13,74 @@
 mod ends;
 mod print;
 
-use cases_text::text;
+use cases_text::{input, text};
 use ends::{Ends, SPACE, Taken};
-use libc::{STDIN_FILENO, STDOUT_FILENO};
+use std::io;
 
-fn main() {
-    let mut table = io::large_buffer();
-    let n = io::read_full(STDIN_FILENO, &mut table);
-    each_line(&table[..n]);
+fn main(rt: HostRuntime) -> io::Result<()> {
+    let mut table = [0u8; input::TABLE];
+    let n = input::read_full(&mut rt.stdin(), &mut table)?;
+    each_line(&rt, &table[..n])
 }
 
-fn each_line(table: &[u8]) {
+fn each_line(rt: &impl Print, table: &[u8]) -> io::Result<()> {
     let mut m = [0u8; SPACE];
     let mut given = Ends::none();
     let mut start = 0;
     while start < table.len() {
         let end = text::find(table, start, b'\n');
-        given = answer_line(&table[start..end], given, &mut m);
+        given = answer_line(rt, &table[start..end], given, &mut m)?;
         start = end + 1;
     }
+    Ok(())
 }
 
 // Writes the line and, if it is a case, the answer; says what is given after it.
-fn answer_line(line: &[u8], given: Ends, m: &mut [u8; SPACE]) -> Ends {
-    io::write_all(STDOUT_FILENO, line);
-    let after = answer(line, given, m);
-    io::write_all(STDOUT_FILENO, b"\n");
-    after
+fn answer_line(rt: &impl Print, line: &[u8], given: Ends, m: &mut [u8; SPACE]) -> io::Result<Ends> {
+    rt.write_all(line)?;
+    let after = answer(rt, line, given, m)?;
+    rt.write_all(b"\n")?;
+    Ok(after)
 }
 
-fn answer(line: &[u8], given: Ends, m: &mut [u8; SPACE]) -> Ends {
+fn answer(rt: &impl Print, line: &[u8], given: Ends, m: &mut [u8; SPACE]) -> io::Result<Ends> {
     if line.len() == 0 {
-        return given;
+        return Ok(given);
     }
     let word = line[0];
     match word {
-        b'g' => match bind_all(line, Ends::none(), m) {
-            Taken::Bound(ends) => ends,
-            Taken::Stopped => Ends::none(),
+        b'g' => match bind_all(rt, line, Ends::none(), m)? {
+            Taken::Bound(ends) => Ok(ends),
+            Taken::Stopped => Ok(Ends::none()),
         },
         b'w' | b's' | b'e' => {
-            match bind_all(line, given, m) {
-                Taken::Bound(ends) => ends.answer(m, word),
+            match bind_all(rt, line, given, m)? {
+                Taken::Bound(ends) => ends.answer(rt, m, word)?,
                 Taken::Stopped => {}
             }
-            given
+            Ok(given)
         }
-        _ => given,
+        _ => Ok(given),
     }
 }
 
 // Takes the steps of a line one after the other.
-fn bind_all(line: &[u8], given: Ends, m: &mut [u8; SPACE]) -> Taken {
+fn bind_all(rt: &impl Print, line: &[u8], given: Ends, m: &mut [u8; SPACE]) -> io::Result<Taken> {
     let mut ends = given;
     let mut number = 0;
     let mut at = text::find(line, 0, b' ');
     while at < line.len() {
         let bar = text::find(line, at, b'|');
-        match ends.bind(&line[at..bar], number, m) {
+        match ends.bind(rt, &line[at..bar], number, m)? {
             Taken::Bound(next) => {
                 ends = next;
             }
             Taken::Stopped => {
-                return Taken::Stopped;
+                return Ok(Taken::Stopped);
             }
         }
         number += 1;
         at = bar + 1;
     }
-    Taken::Bound(ends)
+    Ok(Taken::Bound(ends))
 }

@@ -1,38 +1,38 @@
 // What is written behind a line.
-use libc::STDOUT_FILENO;
 use message_bytes::run;
+use std::io;
 
 // A number behind a text.
-pub(crate) fn number(text: &[u8], n: usize) {
-    io::write_all(STDOUT_FILENO, text);
-    io::print_decimal(STDOUT_FILENO, n as u64);
+pub(crate) fn number(rt: &impl Print, text: &str, n: usize) -> io::Result<()> {
+    print!(rt; "{text}{n}")
 }
 
-pub(crate) fn equal(a: &[u8], b: &[u8]) {
+pub(crate) fn equal(rt: &impl Print, a: &[u8], b: &[u8]) -> io::Result<()> {
     if run::compare(a, b) {
-        io::write_all(STDOUT_FILENO, b" : equal");
+        rt.print(" : equal")
     } else {
-        io::write_all(STDOUT_FILENO, b" : different");
+        rt.print(" : different")
     }
 }
 
-pub(crate) fn size(m: &[u8]) {
-    number(b" : size ", run::size(m));
+pub(crate) fn size(rt: &impl Print, m: &[u8]) -> io::Result<()> {
+    number(rt, " : size ", run::size(m))
 }
 
 // Each node behind a blank.
-pub(crate) fn nodes(m: &[u8]) {
-    io::write_all(STDOUT_FILENO, b",");
+pub(crate) fn nodes(rt: &impl Print, m: &[u8]) -> io::Result<()> {
+    rt.print(",")?;
     let mut i = 0;
     while i < m.len() {
-        byte(m[i], i);
+        byte(rt, m[i], i)?;
         i += 1;
     }
+    Ok(())
 }
 
-fn byte(b: u8, i: usize) {
+fn byte(rt: &impl Print, b: u8, i: usize) -> io::Result<()> {
     if i % 2 == 0 {
-        io::write_all(STDOUT_FILENO, b" ");
+        rt.print(" ")?;
     }
-    io::print_hex(STDOUT_FILENO, b as u64, 2);
+    print!(rt; "{b:02x}")
 }

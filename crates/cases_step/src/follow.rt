@@ -1,5 +1,5 @@
 // The labels of a case followed, level by level: how many steps each has, and the states that they lead to.
-ghost use Rattle.std.specs.Prelude.{◌≡◌, ◌≤◌, ◌<◌, length};
+ghost use Rattle.std.specs.Prelude.{◌≡◌, ◌≤◌, ◌<◌, length, IfOk};
 
 use crate::ask::Led;
 use crate::{ask, label, print};
@@ -8,6 +8,7 @@ use message_bytes::run;
 use state_record::state::State;
 use state_start::form;
 use state_start::form::Formed;
+use std::io;
 use step_label::step::{Label, Step};
 use step_next::next;
 
@@ -15,11 +16,28 @@ use step_next::next;
 const LEVELS: usize = 16;
 
 // Writes the start state of a model, which is put into a slice with its index, and follows the labels from it.
-pub(crate) fn start(model: &[u8], s: &mut [u8], labels: &[u8], m: &mut [u8], out: &mut [u8])
+pub(crate) fn start(
+    rt: &impl Print,
+    model: &[u8],
+    s: &mut [u8],
+    labels: &[u8],
+    m: &mut [u8],
+    out: &mut [u8],
+) -> io::Result<()>
     requires { (length model.now ≤ 4096) × (length s.old ≡ 36864) × (10750 ≤ length m.old) × (3964 ≤ length out.old) }
 {
     index::build(model, s);
-    arrive(s, labels, 0, LEVELS, 0, form::start(s, m, out, 0), m, out);
+    arrive(
+        rt,
+        s,
+        labels,
+        0,
+        LEVELS,
+        0,
+        form::start(s, m, out, 0),
+        m,
+        out,
+    )
 }
 
 // How many aliases there are after a step of a kind. Before the last level there are fewer than levels, so the remainder changes nothing.
@@ -33,6 +51,7 @@ fn more(kind: Label, known: usize) -> usize {
 // Writes the state that a step leads to, or the start state, and follows the labels from a position on there, with so many levels left.
 #[cycle(arrive_follow_follow_all_follow_label_follow_step_follow_steps)]
 fn arrive(
+    rt: &impl Print,
     s: &[u8],
     labels: &[u8],
     at: usize,
@@ -41,21 +60,22 @@ fn arrive(
     formed: Formed,
     m: &mut [u8],
     out: &mut [u8],
-)
+) -> io::Result<()>
     requires { left ≤ 16 }
 {
     match formed {
         Formed::At(state) => {
-            print::state(state, known, 2 * (LEVELS - left));
-            follow(s, labels, at, left, known, state, m, out);
+            print::state(rt, state, known, 2 * (LEVELS - left))?;
+            follow(rt, s, labels, at, left, known, state, m, out)
         }
-        Formed::OverLimit => print::over(2 * (LEVELS - left)),
+        Formed::OverLimit => print::over(rt, 2 * (LEVELS - left)),
     }
 }
 
 // Follows the labels of a level, which stand from a position on, at a state.
 #[cycle(arrive_follow_follow_all_follow_label_follow_step_follow_steps)]
 fn follow(
+    rt: &impl Print,
     s: &[u8],
     labels: &[u8],
     at: usize,
@@ -64,27 +84,29 @@ fn follow(
     state: State,
     m: &mut [u8],
     out: &mut [u8],
-)
+) -> io::Result<()>
     requires { left ≤ 16 }
 {
     if left == 0 {
-        return;
+        return Ok(());
     }
     if labels.len() < at {
-        return;
+        return Ok(());
     }
     let below = label::level_end(labels, at);
     let next = below + 1;
     let mut i = at;
     while i < below {
-        follow_label(s, labels, i, next, left - 1, known, state, m, out);
+        follow_label(rt, s, labels, i, next, left - 1, known, state, m, out)?;
         i += label::width(labels[i]);
     }
+    Ok(())
 }
 
 // Follows the label at a position; the labels of the next level stand from another one on.
 #[cycle(arrive_follow_follow_all_follow_label_follow_step_follow_steps)]
 fn follow_label(
+    rt: &impl Print,
     s: &[u8],
     labels: &[u8],
     at: usize,
@@ -94,7 +116,7 @@ fn follow_label(
     state: State,
     m: &mut [u8],
     out: &mut [u8],
-)
+) -> io::Result<()>
     requires { (left < 16) × (at < length labels.now) }
 {
     let mut channel = [0u8; run::LENGTH];
@@ -102,6 +124,7 @@ fn follow_label(
     let c = label::channel(labels, at, state, out, m, &mut channel);
     let t = label::taken(labels, at, state, out, m, &mut taken);
     follow_all(
+        rt,
         s,
         labels,
         at,
@@ -113,11 +136,12 @@ fn follow_label(
         &taken[0..t],
         m,
         out,
-    );
+    )
 }
 
 // Writes the label at a position and how many steps it has at a state, and answers that.
 fn told(
+    rt: &impl Print,
     s: &[u8],
     labels: &[u8],
     at: usize,
@@ -127,18 +151,19 @@ fn told(
     channel: &[u8],
     m: &mut [u8],
     out: &mut [u8],
-) -> usize
+) -> io::Result<usize>
     requires { left < 16 }
-    ensures { result ≤ 4096 }
+    ensures { IfOk result (λ n. n ≤ 4096) }
 {
     let n = ask::count(s, state, kind, channel, m, out);
-    print::label(labels, at, 2 * (LEVELS - left) - 1, n);
-    n
+    print::label(rt, labels, at, 2 * (LEVELS - left) - 1, n)?;
+    Ok(n)
 }
 
 // Writes how many steps the label has whose channel's and input's runs are given, and follows them.
 #[cycle(arrive_follow_follow_all_follow_label_follow_step_follow_steps)]
 fn follow_all(
+    rt: &impl Print,
     s: &[u8],
     labels: &[u8],
     at: usize,
@@ -150,12 +175,13 @@ fn follow_all(
     taken: &[u8],
     m: &mut [u8],
     out: &mut [u8],
-)
+) -> io::Result<()>
     requires { (left < 16) × (at < length labels.now) }
 {
     let kind = label::kind(labels[at]);
-    let n = told(s, labels, at, left, state, kind, channel, m, out);
+    let n = told(rt, s, labels, at, left, state, kind, channel, m, out)?;
     follow_steps(
+        rt,
         s,
         labels,
         next,
@@ -168,12 +194,13 @@ fn follow_all(
         taken,
         m,
         out,
-    );
+    )
 }
 
 // Follows so many steps of a label. What a step sends, and the channel of a silent step of two threads, stay from one step to the next.
 #[cycle(arrive_follow_follow_all_follow_label_follow_step_follow_steps)]
 fn follow_steps(
+    rt: &impl Print,
     s: &[u8],
     labels: &[u8],
     next: usize,
@@ -186,7 +213,7 @@ fn follow_steps(
     taken: &[u8],
     m: &mut [u8],
     out: &mut [u8],
-)
+) -> io::Result<()>
     requires { (left ≤ 16) × (n ≤ 4096) }
 {
     let mut step = next::before(kind, state);
@@ -195,6 +222,7 @@ fn follow_steps(
     let mut done = 0;
     while done < n {
         step = follow_step(
+            rt,
             s,
             labels,
             next,
@@ -208,14 +236,16 @@ fn follow_steps(
             out,
             &mut buffered,
             &mut message,
-        );
+        )?;
         done += 1;
     }
+    Ok(())
 }
 
 // Follows the step after one, and answers it.
 #[cycle(arrive_follow_follow_all_follow_label_follow_step_follow_steps)]
 fn follow_step(
+    rt: &impl Print,
     s: &[u8],
     labels: &[u8],
     next: usize,
@@ -229,14 +259,14 @@ fn follow_step(
     out: &mut [u8],
     buffered: &mut [u8],
     message: &mut [u8],
-) -> Step
+) -> io::Result<Step>
     requires { left ≤ 16 }
 {
     match ask::led_after(s, state, step, channel, taken, m, out, buffered, message) {
         Led::To(found, formed) => {
-            arrive(s, labels, next, left, known, formed, m, out);
-            found
+            arrive(rt, s, labels, next, left, known, formed, m, out)?;
+            Ok(found)
         }
-        Led::Nowhere => step,
+        Led::Nowhere => Ok(step),
     }
 }

@@ -16,61 +16,77 @@ mod label;
 mod part;
 mod print;
 
-use cases_text::{hex, text};
+use cases_text::{hex, input, text};
 use index_process::index;
-use libc::{STDIN_FILENO, STDOUT_FILENO};
 use state_head::head;
+use std::io;
 
-fn main() {
-    let mut table = io::large_buffer();
-    let n = io::read_full(STDIN_FILENO, &mut table);
-    each_line(&table[..n]);
+// The bytes that states and what is kept beside them are put into.
+const SPACE: usize = 65536;
+
+fn main(rt: HostRuntime) -> io::Result<()> {
+    let mut table = [0u8; input::TABLE];
+    let n = input::read_full(&mut rt.stdin(), &mut table)?;
+    each_line(&rt, &table[..n])
 }
 
-fn each_line(table: &[u8]) {
+fn each_line(rt: &impl Print, table: &[u8]) -> io::Result<()> {
     let mut m = [0u8; head::BOUND];
-    let mut out = io::large_buffer();
+    let mut out = [0u8; SPACE];
     let mut start = 0;
     while start < table.len() {
         let end = text::find(table, start, b'\n');
-        answer_line(&table[start..end], &mut m, &mut out);
+        answer_line(rt, &table[start..end], &mut m, &mut out)?;
         start = end + 1;
     }
+    Ok(())
 }
 
 // Follows the case that the line is, if it is one.
-fn answer_line(line: &[u8], m: &mut [u8; head::BOUND], out: &mut [u8; 65536]) {
+fn answer_line(
+    rt: &impl Print,
+    line: &[u8],
+    m: &mut [u8; head::BOUND],
+    out: &mut [u8; SPACE],
+) -> io::Result<()> {
     if line.len() == 0 {
-        return;
+        return Ok(());
     }
     if line[0] == b'#' {
-        return;
+        return Ok(());
     }
     let name = text::find(line, 0, b':');
     if line.len() <= name {
-        return;
+        return Ok(());
     }
     let model = text::find(line, name + 1, b':');
     if line.len() <= model {
-        return;
+        return Ok(());
     }
-    io::write_all(STDOUT_FILENO, &line[0..name]);
-    io::write_all(STDOUT_FILENO, b": ");
-    answer(&line[name + 1..model], &line[model + 1..], m, out);
+    rt.write_all(&line[0..name])?;
+    rt.print(": ")?;
+    answer(rt, &line[name + 1..model], &line[model + 1..], m, out)
 }
 
 // Follows the labels that one text spells from the start state of the model that another one spells.
-fn answer(model: &[u8], told: &[u8], m: &mut [u8; head::BOUND], out: &mut [u8; 65536]) {
+fn answer(
+    rt: &impl Print,
+    model: &[u8],
+    told: &[u8],
+    m: &mut [u8; head::BOUND],
+    out: &mut [u8; SPACE],
+) -> io::Result<()> {
     let mut s = [0u8; 512];
     let mut labels = [0u8; 64];
     let n = hex::spell(model, &mut s);
     let k = hex::spell(told, &mut labels);
     let mut indexed = [0u8; index::LENGTH];
     follow::start(
+        rt,
         &s[0..n],
         &mut indexed[0..index::LENGTH],
         &labels[0..k],
         m,
         out,
-    );
+    )
 }

@@ -16,19 +16,20 @@ mod lengths;
 mod print;
 mod run;
 
+ghost use Rattle.std.specs.Prelude.{IfOk};
 ghost use Rattle.cases_verdict.specs.Lengths.{LengthsFit};
 
-use cases_text::{spell, text};
+use cases_text::{input, spell, text};
 use lengths::{Lengths, SPACE};
-use libc::{STDIN_FILENO, STDOUT_FILENO};
+use std::io;
 
-fn main() {
-    let mut table = io::large_buffer();
-    let n = io::read_full(STDIN_FILENO, &mut table);
-    each_line(&table[..n]);
+fn main(rt: HostRuntime) -> io::Result<()> {
+    let mut table = [0u8; input::TABLE];
+    let n = input::read_full(&mut rt.stdin(), &mut table)?;
+    each_line(&rt, &table[..n])
 }
 
-fn each_line(table: &[u8]) {
+fn each_line(rt: &impl Print, table: &[u8]) -> io::Result<()> {
     let mut first = [0u8; SPACE];
     let mut second = [0u8; SPACE];
     let mut formula = [0u8; SPACE];
@@ -37,67 +38,72 @@ fn each_line(table: &[u8]) {
     while start < table.len() {
         let end = text::find(table, start, b'\n');
         lengths = take_line(
+            rt,
             &table[start..end],
             lengths,
             &mut first,
             &mut second,
             &mut formula,
-        );
+        )?;
         start = end + 1;
     }
+    Ok(())
 }
 
 // Writes the line and, if it is a case, the answer; says how long the slices are after it.
 fn take_line(
+    rt: &impl Print,
     line: &[u8],
     lengths: Lengths,
     first: &mut [u8; SPACE],
     second: &mut [u8; SPACE],
     formula: &mut [u8; SPACE],
-) -> Lengths
+) -> io::Result<Lengths>
     requires { LengthsFit lengths.first lengths.second lengths.formula }
-    ensures { LengthsFit result.first result.second result.formula }
+    ensures { IfOk result (λ after. LengthsFit after.first after.second after.formula) }
 {
-    io::write_all(STDOUT_FILENO, line);
-    let after = take(line, lengths, first, second, formula);
-    io::write_all(STDOUT_FILENO, b"\n");
-    after
+    rt.write_all(line)?;
+    let after = take(rt, line, lengths, first, second, formula)?;
+    rt.write_all(b"\n")?;
+    Ok(after)
 }
 
 // The first letter says what the line gives.
 fn take(
+    rt: &impl Print,
     line: &[u8],
     lengths: Lengths,
     first: &mut [u8; SPACE],
     second: &mut [u8; SPACE],
     formula: &mut [u8; SPACE],
-) -> Lengths
+) -> io::Result<Lengths>
     requires { LengthsFit lengths.first lengths.second lengths.formula }
-    ensures { LengthsFit result.first result.second result.formula }
+    ensures { IfOk result (λ after. LengthsFit after.first after.second after.formula) }
 {
     if line.len() == 0 {
-        return lengths;
+        return Ok(lengths);
     }
     let text = &line[1..];
     match line[0] {
-        b'1' => lengths.with_first(spell::spell(text, first)),
-        b'2' => lengths.with_second(spell::spell(text, second)),
-        b'f' => lengths.with_formula(spell::spell(text, formula)),
+        b'1' => Ok(lengths.with_first(spell::spell(text, first))),
+        b'2' => Ok(lengths.with_second(spell::spell(text, second))),
+        b'f' => Ok(lengths.with_formula(spell::spell(text, formula))),
         b'w' => {
-            run_case(text, lengths, first, second, formula);
-            lengths
+            run_case(rt, text, lengths, first, second, formula)?;
+            Ok(lengths)
         }
-        _ => lengths,
+        _ => Ok(lengths),
     }
 }
 
 fn run_case(
+    rt: &impl Print,
     text: &[u8],
     lengths: Lengths,
     first: &[u8; SPACE],
     second: &[u8; SPACE],
     formula: &[u8; SPACE],
-)
+) -> io::Result<()>
     requires { LengthsFit lengths.first lengths.second lengths.formula }
 {
     let a = lengths.first;
@@ -106,5 +112,5 @@ fn run_case(
     let f = &first[..];
     let s = &second[..];
     let g = &formula[..];
-    run::run(text, &f[0..a], &s[0..b], &g[0..c]);
+    run::run(rt, text, &f[0..a], &s[0..b], &g[0..c])
 }

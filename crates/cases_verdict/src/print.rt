@@ -1,29 +1,28 @@
 // Writes an answer behind its line.
 use crate::run::WorkBytes;
-use libc::STDOUT_FILENO;
+use std::io;
 use verdict_input::answer::Answer;
 
-pub(crate) fn numbers(a: Answer) {
-    io::write_all(STDOUT_FILENO, b" :");
-    number(a.result);
-    number(a.slice);
-    number(a.place);
-    number(a.count);
+pub(crate) fn numbers(rt: &impl Print, a: Answer) -> io::Result<()> {
+    rt.print(" :")?;
+    number(rt, a.result)?;
+    number(rt, a.slice)?;
+    number(rt, a.place)?;
+    number(rt, a.count)
 }
 
-fn number(n: u32) {
-    io::write_all(STDOUT_FILENO, b" ");
-    io::print_decimal(STDOUT_FILENO, n as u64);
+fn number(rt: &impl Print, n: u32) -> io::Result<()> {
+    print!(rt; " {n}")
 }
 
-pub(crate) fn work(left: WorkBytes) {
+pub(crate) fn work(rt: &impl Print, left: WorkBytes) -> io::Result<()> {
     match left {
-        WorkBytes::Untouched => word(b" untouched"),
-        WorkBytes::Cleared => word(b" cleared"),
-        WorkBytes::Changed => word(b" changed"),
+        WorkBytes::Untouched => word(rt, " untouched"),
+        WorkBytes::Cleared => word(rt, " cleared"),
+        WorkBytes::Changed => word(rt, " changed"),
     }
 }
 
-fn word(text: &[u8]) {
-    io::write_all(STDOUT_FILENO, text);
+fn word(rt: &impl Print, text: &str) -> io::Result<()> {
+    rt.print(text)
 }

@@ -3,6 +3,7 @@ ghost use Rattle.std.specs.Prelude.{◌≤◌};
 
 use crate::print;
 use cases_text::text;
+use std::io;
 
 // The bytes that there are to lend, and how many of them the verdict uses.
 const WORK: usize = 65600;
@@ -13,14 +14,20 @@ const USED: usize = 65536;
 const FILL: u8 = 165;
 
 // The text says how many bytes are lent and, behind a `b`, the budget.
-pub(crate) fn run(text: &[u8], first: &[u8], second: &[u8], formula: &[u8]) {
+pub(crate) fn run(
+    rt: &impl Print,
+    text: &[u8],
+    first: &[u8],
+    second: &[u8],
+    formula: &[u8],
+) -> io::Result<()> {
     let mut work = [FILL; WORK];
     let middle = text::find(text, 0, b'b');
     let lent = lendable(text::number(&text[0..middle]));
     let budget = budget_of(text::number(&text[middle..]));
     let answer = gubzsenil::gubzsenil_verdict(first, second, formula, &mut work[0..lent], budget);
-    print::numbers(answer);
-    print::work(left_in(&work));
+    print::numbers(rt, answer)?;
+    print::work(rt, left_in(&work))
 }
 
 // So many work bytes, or all.

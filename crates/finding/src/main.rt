@@ -2,9 +2,12 @@
 // four numbers of the verdict in decimal, one space between, and then a newline ("Judged by hand").
 #![tactic(auto)]
 
-ghost use Rattle.std.specs.Prelude.{◌≤◌, length};
+ghost use Rattle.std.specs.Prelude.{◌≤◌, length, IfOk};
 
-use libc::STDOUT_FILENO;
+use std::fs::File;
+use std::io;
+use std::io::Read;
+use std::rt::Files;
 use verdict_input::answer::Answer;
 
 // One byte more than a slice may have, so that a longer file is one that the verdict refuses.
@@ -12,51 +15,65 @@ const SLICE: usize = 4097;
 
 const BUDGET: u32 = 1000000;
 
+// The bytes that a verdict works in.
+const WORK: usize = 65536;
+
 // Puts the first bytes of a file into a slice and answers how many there are: none, if there is no such file.
-fn load(path: &[u8], slice: &mut [u8]) -> usize
-    ensures { result ≤ length slice.old }
+fn load(rt: &impl Files, path: &str, slice: &mut [u8]) -> io::Result<usize>
+    ensures { IfOk result (λ n. n ≤ length slice.old) }
 {
-    let file = os::open_read(path);
-    if file < 0 {
-        return 0;
+    match File::open(rt, path) {
+        Ok(mut file) => read_full(&mut file, slice),
+        Err(_) => Ok(0),
     }
-    let n = io::read_full(file, slice);
-    libc::close(file);
-    n
+}
+
+// Reads until the slice is full or the file ends, and answers how many bytes it put at the start of the slice.
+fn read_full(file: &mut impl Read, slice: &mut [u8]) -> io::Result<usize>
+    ensures { IfOk result (λ n. n ≤ length slice.old) }
+{
+    let mut done = 0;
+    while done < slice.len() {
+        let n = file.read(&mut slice[done..])?;
+        if n == 0 {
+            break;
+        }
+        done += n;
+    }
+    Ok(done)
 }
 
 // Writes a number, and what stands behind it.
-fn print(number: u32, behind: &[u8]) {
-    io::print_decimal(STDOUT_FILENO, number as u64);
-    io::write_all(STDOUT_FILENO, behind);
+fn print(rt: &impl Print, number: u32, behind: &str) -> io::Result<()> {
+    print!(rt; "{number}{behind}")
 }
 
 // The verdict on three slices.
-fn judge(first: &[u8], second: &[u8], formula: &[u8]) {
-    let mut work = io::large_buffer();
+fn judge(rt: &impl Print, first: &[u8], second: &[u8], formula: &[u8]) -> io::Result<()> {
+    let mut work = [0u8; WORK];
     let answer: Answer = gubzsenil::gubzsenil_verdict(first, second, formula, &mut work, BUDGET);
-    print(answer.result, b" ");
-    print(answer.slice, b" ");
-    print(answer.place, b" ");
-    print(answer.count, b"\n");
+    print(rt, answer.result, " ")?;
+    print(rt, answer.slice, " ")?;
+    print(rt, answer.place, " ")?;
+    print(rt, answer.count, "\n")
 }
 
 // The same on two slices, and on the formula that a file has.
-fn with_formula(first: &[u8], second: &[u8]) {
+fn with_formula(rt: &(impl Files + Print), first: &[u8], second: &[u8]) -> io::Result<()> {
     let mut formula = [0u8; SLICE];
-    let n = load(b"formula.bin", &mut formula);
-    judge(first, second, &formula[0..n]);
+    let n = load(rt, "formula.bin", &mut formula)?;
+    judge(rt, first, second, &formula[0..n])
 }
 
 // The same on one slice, and on the second model and the formula that files have.
-fn with_second(first: &[u8]) {
+fn with_second(rt: &(impl Files + Print), first: &[u8]) -> io::Result<()> {
     let mut second = [0u8; SLICE];
-    let n = load(b"second.bin", &mut second);
-    with_formula(first, &second[0..n]);
+    let n = load(rt, "second.bin", &mut second)?;
+    with_formula(rt, first, &second[0..n])
 }
 
-fn main() {
+fn main(rt: HostRuntime) -> io::Result<()> {
     let mut first = [0u8; SLICE];
-    let n = load(b"first.bin", &mut first);
-    with_second(&first[0..n]);
+    let n = load(&rt, "first.bin", &mut first)?;
+    with_second(&rt, &first[0..n])
 }

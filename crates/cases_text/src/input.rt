@@ -1,0 +1,23 @@
+// The table that a test program is given.
+ghost use Rattle.std.specs.Prelude.{◌≤◌, length, IfOk};
+
+use std::io;
+use std::io::Read;
+
+// The most bytes that a table may have.
+pub const TABLE: usize = 65536;
+
+// Reads until the slice is full or the input ends, and answers how many bytes it put at the start of it.
+pub fn read_full(input: &mut impl Read, out: &mut [u8]) -> io::Result<usize>
+    ensures { IfOk result (λ n. n ≤ length out.new) }
+{
+    let mut done = 0;
+    while done < out.len() {
+        let n = input.read(&mut out[done..])?;
+        if n == 0 {
+            break;
+        }
+        done += n;
+    }
+    Ok(done)
+}
