@@ -1,12 +1,13 @@
 -- `successor_next::arrive::next` meets its contract.
 use Rattle.std.proofs.Common.{rules}
-use Rattle.state_progress.proofs.Laws.Progress.{to_ends}
-use Rattle.successor_next.proofs.Laws.Arrive.{arrives_none}
+use Rattle.successor_next.proofs.Laws.Arrive.{arrives_none, arrives_by}
 use Rattle.successor_next.proofs.arrive.next.Goals as goal
 
 pub returns-in-Found-clause-arrives : goal.returns-in-Found-clause-arrives
-returns-in-Found-clause-arrives c = search (rules, to_ends, arrives_none)
+returns-in-Found-clause-arrives c =
+    let next = c.next.ensures in
+    arrives_by next.nexts c.in-Found.is next.written_from next.written_from_2 c.led.ensures.leaves
 
 pub returns-in-None-clause-arrives : goal.returns-in-None-clause-arrives
-returns-in-None-clause-arrives c = search (rules, to_ends, arrives_none)
+returns-in-None-clause-arrives c = search (rules, arrives_none)
 
