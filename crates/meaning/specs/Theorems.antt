@@ -1,6 +1,6 @@
 -- The theorems, each stated over the definitions and nothing else. Their proofs are in proofs/, under the same names
 -- in snake case.
-use Rattle.std.specs.Prelude.{◌≡◌, ◌↔◌, ◌⊎◌, false, List, map, ℕ, ◌+◌, ◌≤◌, ◌<◌, T, length}
+use Rattle.std.specs.Prelude.{◌≡◌, ◌↔◌, ◌⊎◌, false, List, map, ℕ, ◌≤◌, ◌<◌, T, length}
 use Rattle.std.proofs.Math.Option.{some}
 use Rattle.std.proofs.Math.ListN.{get_elem?}
 use Rattle.meaning.specs.Messages.Term.{Message}

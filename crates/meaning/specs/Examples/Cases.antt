@@ -4,7 +4,7 @@ use Rattle.meaning.specs.Messages.Term.{binary, enc, dec, cipher}
 use Rattle.meaning.specs.Bytes.Process.{Prefix, nil, new, act, par, repl}
 use Rattle.meaning.specs.Bytes.Formula.{Label}
 use Rattle.meaning.specs.Examples.Entry.{Entry, answered, numbered, equal, different, reaching}
-use Rattle.meaning.specs.Examples.Material.{work, budget, a, k, l, c, x, sends, takes, idle, output, no_output_formula, refused_as}
+use Rattle.meaning.specs.Examples.Material.{work, budget, a, k, l, c, x, sends, takes, idle, output, no_output_formula}
 
 abbrev pub cases : List Entry
 cases =

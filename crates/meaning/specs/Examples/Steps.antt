@@ -1,7 +1,7 @@
 -- Worked examples on steps: which there are, in which order, and where they lead ("Steps").
 use Rattle.std.specs.Prelude.{List, [], ◌∷◌}
 use Rattle.meaning.specs.Messages.Term.{leaf, private}
-use Rattle.meaning.specs.Bytes.Process.{Prefix, nil, new, act, par, repl}
+use Rattle.meaning.specs.Bytes.Process.{Prefix, nil, new, par, repl}
 use Rattle.meaning.specs.Bytes.Formula.{Label, Formula}
 use Rattle.meaning.specs.Bytes.Encoding.{encode_formula}
 use Rattle.meaning.specs.Steps.State.{Thread}
