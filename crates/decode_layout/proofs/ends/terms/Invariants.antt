@@ -1,8 +1,7 @@
 -- `decode_layout::ends::terms` meets its contract. The loop knows how many terms are left, and that they are few enough to count.
 use Rattle.meaning.specs.Bytes.Encoding.{encode_term}
 use Rattle.decode_layout.proofs.Laws.Standing.{Traversed}
-use Rattle.std.proofs.Common.{◌≤◌, ◌≡◌, ℕ, ◌+◌, ◌-◌, ◌*◌, ◌<◌, length}
-use Rattle.decode_layout.specs.Ends.{NumbersEnd, TermEnd, TermsEnd}
+use Rattle.std.proofs.Common.{◌≤◌, ◌+◌, ◌-◌, length}
 use Rattle.decode_layout.proofs.ends.terms.Given as goal
 
 abbrev pub invariant-loop-left : goal.invariant-loop-left
