@@ -1,8 +1,4 @@
 -- `decode_term::term::fields` meets its contract, term by term. The measure is the number of terms to come.
-use Rattle.std.proofs.Common.{◌≡◌, ℕ, ◌+◌, ◌-◌, ◌*◌, ◌<◌, ◌≤◌, length}
-use Rattle.meaning.specs.Bytes.Reading.{term}
-use Rattle.decode_number.specs.Answer.{answer, bounded, extent}
-use Rattle.decode_term.specs.Shape.{leaf, term_head, terms_at}
 use Rattle.decode_term.proofs.term.+fields.Given as goal
 
 -- proposed from what the function passes where it calls itself

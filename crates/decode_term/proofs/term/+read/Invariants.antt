@@ -1,10 +1,9 @@
 -- `decode_term::term::read` meets its contract, by the layout of terms. The measure of the calls and of the loop is the number of
 -- term nodes left. The loop knows that the term asked for has the extent of the one at hand.
 use Rattle.decode_term.proofs.Laws.Terms.{term_node}
-use Rattle.std.proofs.Common.{◌≡◌, ℕ, ◌+◌, ◌-◌, ◌*◌, ◌<◌, ◌≤◌, length}
+use Rattle.std.proofs.Common.{◌≡◌, ◌≤◌}
 use Rattle.meaning.specs.Bytes.Reading.{term}
-use Rattle.decode_number.specs.Answer.{answer, bounded, extent}
-use Rattle.decode_term.specs.Shape.{leaf, term_head, terms_at}
+use Rattle.decode_number.specs.Answer.{extent}
 use Rattle.decode_term.proofs.term.+read.Given as goal
 
 abbrev pub decreases-read : goal.decreases-read
