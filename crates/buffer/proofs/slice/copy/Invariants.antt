@@ -1,5 +1,5 @@
 -- `buffer::slice::copy` meets its contract. The loop has copied as many bytes as it has gone round.
-use Rattle.std.proofs.Common.{◌-◌, ◌≡◌, ◌⊎◌, ◌+◌, ◌≤◌, length, drop, ℕ, ◌*◌, ◌<◌}
+use Rattle.std.proofs.Common.{◌-◌, ◌≡◌, ◌≤◌, length, drop}
 use Rattle.std.proofs.Math.Seq.{paste}
 use Rattle.buffer.proofs.slice.copy.Given as goal
 

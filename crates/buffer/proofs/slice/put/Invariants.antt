@@ -1,5 +1,5 @@
 -- `buffer::slice::put` meets its contract. The loop has copied as many bytes as it has gone round.
-use Rattle.std.proofs.Common.{length, ◌-◌, ◌≡◌, ◌⊎◌, ◌+◌, ◌≤◌, drop, ℕ, ◌*◌, ◌<◌}
+use Rattle.std.proofs.Common.{length, ◌-◌, ◌≡◌, ◌≤◌}
 use Rattle.std.proofs.Math.Seq.{paste}
 use Rattle.buffer.proofs.slice.put.Given as goal
 
