@@ -1,8 +1,6 @@
 -- `index_process::index::index` and `index_process::index::row`, which call each other, meet their contracts. The measure is the number of process nodes
 -- left, two steps to a node.
-use Rattle.std.proofs.Common.{◌+◌, ◌*◌, ◌≤◌, ◌<◌, length, ◌≡◌, ℕ, ◌-◌}
-use Rattle.buffer.specs.Buffer.{SameLength, WrittenFrom}
-use Rattle.index_process.specs.Index.{Says, SaysByte, Ends, Lasts, Fixes, GrowsBy, Writes, Notes, Indexes, IndexesRow, Builds, ShortModel}
+use Rattle.std.proofs.Common.{◌+◌, ◌*◌}
 use Rattle.index_process.proofs.index.+index_row.Given as goal
 
 abbrev pub decreases-index : goal.decreases-index
