@@ -10,14 +10,14 @@ index-returns-then-left-eq0-clause-indexes t c = search (rules, unchanged, index
 
 pub index-returns-then-at-ge-SLICE-clause-indexes :
     goal.index-returns-then-at-ge-SLICE-clause-indexes
-index-returns-then-at-ge-SLICE-clause-indexes t c = search (rules, unchanged, indexing, one_after, rows)
+index-returns-then-at-ge-SLICE-clause-indexes t c = search (rules, indexing, rows)
 
 pub index-returns-clause-indexes : goal.index-returns-clause-indexes
-index-returns-clause-indexes t c = search (rules, unchanged, indexing, one_after, rows)
+index-returns-clause-indexes t c = search (rules, indexing, rows)
 
 pub row-returns-then-count-eq1-clause-indexes_row :
     goal.row-returns-then-count-eq1-clause-indexes_row
-row-returns-then-count-eq1-clause-indexes_row t c = search (rules, unchanged, indexing, one_after, rows)
+row-returns-then-count-eq1-clause-indexes_row t c = search (rules, indexing, rows)
 
 pub row-returns-clause-indexes_row : goal.row-returns-clause-indexes_row
-row-returns-clause-indexes_row t c = search (rules, unchanged, indexing, one_after, rows)
+row-returns-clause-indexes_row t c = search (rules, indexing, rows)

@@ -1,8 +1,6 @@
 -- `index_formula::index::index` and `index_formula::index::row`, which call each other, meet their contracts. The measure is the number
 -- of formula nodes left, two steps to a node.
-use Rattle.std.proofs.Common.{◌≡◌, true, ◌≤◌, ◌<◌, length, ℕ, ◌+◌, ◌-◌, ◌*◌}
-use Rattle.buffer.specs.Buffer.{Within}
-use Rattle.index_formula.specs.Index.{entry, joined, node_of, Says, Ends, Stepless, Notes, Indexes, IndexesRow, Builds}
+use Rattle.std.proofs.Common.{◌+◌, ◌*◌}
 use Rattle.index_formula.proofs.index.+index_row.Given as goal
 
 abbrev pub decreases-index : goal.decreases-index
