@@ -1,7 +1,6 @@
 -- `message_bytes::run::compare` meets its contract. The loop knows that the runs, which are as long, are the same up to here.
 use lib.ListN.{take}
-use Rattle.std.proofs.Common.{length, ◌-◌, ◌≡◌, ◌*◌, ◌≤◌, ℕ, ◌+◌, ◌<◌}
-use Rattle.message_bytes.specs.Run.{alike, SizeOf, Decides}
+use Rattle.std.proofs.Common.{length, ◌-◌, ◌≡◌}
 use Rattle.message_bytes.proofs.run.compare.Given as goal
 
 abbrev pub invariant-loop-i : goal.invariant-loop-i

@@ -4,7 +4,7 @@ use Rattle.message_bytes.proofs.Laws.Traverse.{sizes, two_at_most}
 use Rattle.message_bytes.proofs.run.size.Goals as goal
 
 pub returns-then-m-nodes-clause-size_of : goal.returns-then-m-nodes-clause-size_of
-returns-then-m-nodes-clause-size_of c = search (rules, sizes, two_at_most)
+returns-then-m-nodes-clause-size_of c = search (rules, sizes)
 
 pub overflow_add-left : goal.overflow_add-left
 overflow_add-left c = search (rules, sizes, two_at_most)

@@ -1,8 +1,7 @@
 -- `message_bytes::run::size` meets its contract. The loop knows how many parts are left, and that they are few enough to count.
 use Rattle.decode_layout.proofs.Laws.Standing.{Traversed}
 use Rattle.message_bytes.specs.Encoding.{encode_message}
-use Rattle.std.proofs.Common.{◌≡◌, ◌*◌, ◌≤◌, length, ℕ, ◌+◌, ◌-◌, ◌<◌}
-use Rattle.message_bytes.specs.Run.{alike, SizeOf, Decides}
+use Rattle.std.proofs.Common.{◌*◌, ◌≤◌, length, ◌+◌, ◌-◌}
 use Rattle.message_bytes.proofs.run.size.Given as goal
 
 abbrev pub invariant-loop-left : goal.invariant-loop-left
