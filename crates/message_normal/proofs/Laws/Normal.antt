@@ -1,7 +1,7 @@
 -- The normal form of a node over normal forms, by the number of the first node of its first part ("Messages").
 use mathlib.Core.Path.{◌≡◌, refl, ap}
 use mathlib.Core.Bool.{true, false}
-use Prim.Native.Nat.{ℕ, ◌-◌}
+use Prim.Native.Nat.{ℕ}
 use native.Mathlib.Omega.{arith}
 use lib.Dec.{eqb, eqb→eq, eqb_refl}
 use lib.Ieee.Bits.{is_true}
