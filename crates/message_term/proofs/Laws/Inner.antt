@@ -1,11 +1,11 @@
 -- A term with parts, worked after its parts ("Messages"; "Judging and its count": each part is held to the limit).
 use mathlib.Core.Path.{◌≡◌, ap, ◌∙◌}
 use mathlib.Core.List.{List}
-use Prim.Native.Nat.{ℕ, ◌+◌, ◌-◌, ◌*◌, ◌/◌, ◌%◌, ◌≤◌}
+use Prim.Native.Nat.{ℕ, ◌+◌, ◌*◌, ◌/◌, ◌%◌, ◌≤◌}
 use native.Mathlib.Omega.{arith}
 use lib.ListN.{length, set}
 use Rattle.meaning.specs.Messages.Term.{Side, Binary, Term, proj, binary}
-use Rattle.meaning.specs.Messages.Normal.{normal, size}
+use Rattle.meaning.specs.Messages.Normal.{normal}
 use Rattle.meaning.specs.Bytes.Standing.{Stands}
 use Rattle.meaning.specs.Steps.State.{Bound, written, worked}
 use Rattle.meaning.specs.Judging.Limits.{over}

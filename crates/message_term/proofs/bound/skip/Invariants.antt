@@ -1,7 +1,6 @@
 -- `message_term::bound::skip` meets its contract. The loop passes one entry at a turn.
 use Rattle.message_term.proofs.Laws.Bound.{Passed}
-use Rattle.std.proofs.Common.{◌-◌, ◌+◌, ◌≤◌, length, ◌≡◌, ℕ, ◌*◌, ◌<◌}
-use Rattle.message_term.specs.Bound.{Begins, Found}
+use Rattle.std.proofs.Common.{◌-◌, ◌+◌, ◌≤◌, length}
 use Rattle.message_term.proofs.bound.skip.Given as goal
 
 abbrev pub invariant-loop-i : goal.invariant-loop-i

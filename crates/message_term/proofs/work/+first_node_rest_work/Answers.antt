@@ -31,15 +31,15 @@ rest-returns-in-TooLarge-clause-second_worked t c = search (rules, first_within,
 pub rest-returns-clause-within : goal.rest-returns-clause-within
 rest-returns-clause-within t c =
     elim c.if-parts-ne1.branch [
-      rest-then-parts-ne1+in-Done w ↦ search (rules, rest_withins)
-    | rest-else-parts-ne1 w ↦ search (rules, rest_withins)
+      | rest-then-parts-ne1+in-Done w ↦ search (rules, rest_withins)
+      | rest-else-parts-ne1 w ↦ search (rules, rest_withins)
     ]
 
 pub rest-returns-clause-second_worked : goal.rest-returns-clause-second_worked
 rest-returns-clause-second_worked t c =
     elim c.if-parts-ne1.branch [
-      rest-then-parts-ne1+in-Done w ↦ search (rules, joins)
-    | rest-else-parts-ne1 w ↦ search (rules, joins)
+      | rest-then-parts-ne1+in-Done w ↦ search (rules, joins)
+      | rest-else-parts-ne1 w ↦ search (rules, joins)
     ]
 
 pub work-returns-then-left-eq0-clause-works : goal.work-returns-then-left-eq0-clause-works

@@ -1,9 +1,6 @@
 -- `message_term::work::work`, `node`, `first` and `rest` meet their contracts: leaves first, then a node over its parts. The measure is
 -- the number of term nodes left, three steps to a node. In `rest` two ways meet, with a second part and without one.
-use Rattle.std.proofs.Common.{◌+◌, ◌*◌, ◌≤◌, ◌<◌, length, ◌≡◌, ℕ, ◌-◌}
-use Rattle.buffer.specs.Buffer.{Within}
-use Rattle.message_term.specs.Work.{Works, Reaches}
-use Rattle.message_term.specs.Inner.{Reduced, NodeWorked, FirstWorked, SecondWorked}
+use Rattle.std.proofs.Common.{◌+◌, ◌*◌}
 use Rattle.message_term.proofs.work.+first_node_rest_work.Given as goal
 
 abbrev pub decreases-first : goal.decreases-first
