@@ -1,13 +1,12 @@
 -- A message bound after others: the number of its nodes, and its run ("Steps").
 use mathlib.Core.Path.{◌≡◌, sym, ap, ◌∙◌}
-use mathlib.Core.Bool.{false, true≢false}
+use mathlib.Core.Bool.{true≢false}
 use mathlib.Core.List.{List, [], ◌∷◌, append-nil}
 use Prim.Native.Nat.{ℕ, ◌+◌, ◌-◌, ◌*◌, ◌/◌, ◌%◌, ◌≤◌, ◌<◌}
 use native.Mathlib.Omega.{arith}
 use lib.ListN.{length, set, take}
 use lib.Seq.{paste}
 use Rattle.meaning.specs.Messages.Term.{Term, Message, leaf, private, nodes}
-use Rattle.meaning.specs.Messages.Normal.{size}
 use Rattle.meaning.specs.Bytes.Standing.{Stands}
 use Rattle.meaning.specs.Steps.State.{Bound, ◌▸◌, worked}
 use Rattle.meaning.specs.Judging.Limits.{over}
