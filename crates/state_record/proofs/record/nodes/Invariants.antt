@@ -1,8 +1,6 @@
 -- `state_record::record::nodes` meets its contract. The loop passes one entry at a turn.
 use Rattle.state_record.proofs.Laws.Record.{Summed}
-use Rattle.std.proofs.Common.{length, ◌-◌, ◌+◌, ◌*◌, ◌≤◌, ◌<◌, ◌≡◌, ℕ}
-use Rattle.buffer.specs.Buffer.{Within}
-use Rattle.state_record.specs.Record.{NodesOf, Written, HeadStands}
+use Rattle.std.proofs.Common.{length, ◌-◌, ◌+◌, ◌*◌, ◌≤◌}
 use Rattle.state_record.proofs.record.nodes.Given as goal
 
 abbrev pub invariant-loop-at : goal.invariant-loop-at

@@ -11,4 +11,4 @@ pub returns-then-out-at-clause-loads : goal.returns-then-out-at-clause-loads
 returns-then-out-at-clause-loads c = search (rules, unchanged, loads, loaded_within)
 
 pub returns-clause-loads : goal.returns-clause-loads
-returns-clause-loads c = search (rules, unchanged, loads, loaded_within)
+returns-clause-loads c = search (rules, loads)
