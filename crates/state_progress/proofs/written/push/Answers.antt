@@ -2,12 +2,10 @@
 use Rattle.std.proofs.Common.{rules}
 use Rattle.state_record.proofs.Laws.Room.{record_rooms}
 use Rattle.state_progress.proofs.Laws.Push.{push_bounds, pushes}
-use Rattle.state_progress.proofs.Laws.Progress.{stopped_extends}
-use Rattle.buffer.proofs.Laws.Buffer.{unchanged}
 use Rattle.state_progress.proofs.written.push.Goals as goal
 
 pub returns-in-To-clause-pushes : goal.returns-in-To-clause-pushes
-returns-in-To-clause-pushes c = search (rules, record_rooms, push_bounds, pushes, stopped_extends, unchanged)
+returns-in-To-clause-pushes c = search (rules, record_rooms, push_bounds, pushes)
 
 pub returns-in-Full-clause-pushes : goal.returns-in-Full-clause-pushes
-returns-in-Full-clause-pushes c = search (rules, record_rooms, push_bounds, pushes, stopped_extends, unchanged)
+returns-in-Full-clause-pushes c = search (rules, record_rooms, push_bounds, pushes)
