@@ -3,7 +3,6 @@ use Rattle.std.specs.Prelude.{◌≡◌, Bool, true, false, List, ℕ}
 use Rattle.meaning.specs.Bytes.Process.{Prefix, Process}
 use Rattle.meaning.specs.Bytes.Encoding.{encode_process}
 use Rattle.meaning.specs.Bytes.Standing.{Stands}
-use Rattle.meaning.specs.Steps.State.{act}
 use Rattle.index_process.specs.Index.{InModel, Ends}
 use Rattle.state_record.specs.Place.{rest_at}
 use Rattle.state_task.specs.Machine.{contains}
