@@ -4,7 +4,7 @@ use Rattle.std.specs.Prelude.{ℕ, suc, ◌+◌, true, false, ◌||◌, eqb}
 use Rattle.meaning.specs.Messages.Term.{leaf, private, Message}
 use Rattle.meaning.specs.Messages.Normal.{equal}
 use Rattle.meaning.specs.Bytes.Process.{Prefix, Process}
-use Rattle.meaning.specs.Steps.State.{Bound, ◌▸◌, written, worked, act, repl}
+use Rattle.meaning.specs.Steps.State.{Bound, ◌▸◌, written, worked, act}
 use Rattle.meaning.specs.Judging.Limits.{over}
 use Rattle.state_record.specs.Place.{then_at, else_at, body_at, right_at, rest_at}
 use Rattle.state_progress.specs.TraversalResult.{Accumulated, TraversalResult, going, further, unless, named, returned, push}

@@ -5,7 +5,7 @@ use Prim.Native.Nat.{ℕ, ◌+◌, ◌-◌, ◌≤◌}
 use native.Mathlib.Omega.{arith}
 use Rattle.meaning.specs.Messages.Term.{Message}
 use Rattle.meaning.specs.Bytes.Process.{Process}
-use Rattle.meaning.specs.Steps.State.{Bound, repl}
+use Rattle.meaning.specs.Steps.State.{Bound}
 use Rattle.buffer.specs.Buffer.{Within}
 use Rattle.state_head.specs.News.{news, later_news}
 use Rattle.state_progress.specs.TraversalResult.{Accumulated, TraversalResult, going, over_limit, found, named, returned}

@@ -1,9 +1,6 @@
 -- The private names of a process are counted: `state_head::count::count`, `by_head` and `both`, for a par, call each other. The measure is the
 -- number of process nodes left, three steps to a node.
-use Rattle.std.proofs.Common.{◌≤◌, length, ◌≡◌, ℕ, ◌+◌, ◌-◌, ◌*◌, ◌<◌}
-use Rattle.buffer.specs.Buffer.{WrittenFrom}
-use Rattle.state_head.specs.Count.{Fixed, Counts, CountsIf}
-use Rattle.state_head.specs.Head.{RoomAtNode, BoundFits}
+use Rattle.std.proofs.Common.{◌+◌, ◌*◌}
 use Rattle.state_head.proofs.count.+both_by_head_count.Given as goal
 
 abbrev pub decreases-both : goal.decreases-both

@@ -1,8 +1,7 @@
 -- `state_head::head::descend` meets its contract. The loop goes one node down at a turn.
 use Rattle.buffer.specs.Buffer.{Within}
-use Rattle.std.proofs.Common.{◌≤◌, ◌<◌, length, ◌≡◌, ℕ, ◌+◌, ◌-◌, ◌*◌}
-use Rattle.buffer.specs.Buffer.{WrittenFrom}
-use Rattle.state_head.specs.Head.{StopsAt, Arrives, HasByte, HasRoom, DescendsIf, DescendsFrom, IsPassed, Descends, Settled, RoomAtNode, BoundFits}
+use Rattle.std.proofs.Common.{◌≤◌, length}
+use Rattle.state_head.specs.Head.{HasRoom, Descends}
 use Rattle.state_head.proofs.head.descend.Given as goal
 
 abbrev pub invariant-loop-m : goal.invariant-loop-m
