@@ -11,7 +11,6 @@ use Rattle.meaning.specs.Bytes.Process.{Prefix, output, input, Process}
 use Rattle.meaning.specs.Bytes.Encoding.{encode_term}
 use Rattle.meaning.specs.Bytes.Standing.{Stands}
 use Rattle.meaning.specs.Steps.State.{Bound, worked}
-use Rattle.meaning.specs.Judging.Limits.{over}
 use Rattle.meaning.proofs.Bytes.Reading.Place.{◌⨾◌}
 use Rattle.message_bytes.specs.Encoding.{encode_message}
 use Rattle.buffer.specs.Buffer.{Within}
@@ -22,7 +21,7 @@ use Rattle.message_term.specs.declared.work.Worked.{Worked}
 use Rattle.message_term.specs.declared.work.Worked.TheVariants.{Done, TooLarge}
 use Rattle.message_term.proofs.Laws.Work.{said_over, said_small}
 use Rattle.state_record.specs.Place.{ProcessAt, body_at}
-use Rattle.state_progress.specs.TraversalResult.{Accumulated, going}
+use Rattle.state_progress.specs.TraversalResult.{Accumulated}
 use Rattle.state_progress.specs.Represented.{Represents, RepresentsResult, encode_messages}
 use Rattle.state_progress.specs.Progress.{Extends, Stopped, Hits}
 use Rattle.state_task.specs.Thread.{HandsMessages, handed_over, channel_of, Hands}

@@ -3,17 +3,16 @@ use Rattle.std.proofs.Common.{rules}
 use Rattle.state_prefix.proofs.Laws.Hand.{reaches}
 use Rattle.state_prefix.proofs.Laws.Seek.{channels, found_extends}
 use Rattle.state_progress.proofs.Laws.Progress.{to_end}
-use Rattle.buffer.proofs.Laws.Buffer.{unchanged}
 use Rattle.state_prefix.proofs.thread.channel.Goals as goal
 
 pub returns-then-agrees-clause-written_from : goal.returns-then-agrees-clause-written_from
-returns-then-agrees-clause-written_from c = search (rules, reaches, channels, found_extends, to_end, unchanged)
+returns-then-agrees-clause-written_from c = search (rules, reaches, channels, found_extends, to_end)
 
 pub returns-then-agrees-clause-channels : goal.returns-then-agrees-clause-channels
-returns-then-agrees-clause-channels c = search (rules, reaches, channels, found_extends, to_end, unchanged)
+returns-then-agrees-clause-channels c = search (rules, reaches, channels, found_extends)
 
 pub returns-else-agrees-clause-channels : goal.returns-else-agrees-clause-channels
-returns-else-agrees-clause-channels c = search (rules, reaches, channels, found_extends, to_end, unchanged)
+returns-else-agrees-clause-channels c = search (rules, reaches, channels, found_extends)
 
 pub returns-in-TooLarge-clause-channels : goal.returns-in-TooLarge-clause-channels
-returns-in-TooLarge-clause-channels c = search (rules, reaches, channels, found_extends, to_end, unchanged)
+returns-in-TooLarge-clause-channels c = search (rules, reaches, channels, found_extends)

@@ -2,11 +2,10 @@
 use Rattle.std.proofs.Common.{rules}
 use Rattle.state_progress.proofs.Laws.Progress.{extensions}
 use Rattle.state_prefix.proofs.Laws.Thread.{settlings}
-use Rattle.buffer.proofs.Laws.Buffer.{unchanged}
 use Rattle.state_prefix.proofs.thread.settle.Goals as goal
 
 pub returns-then-going-clause-settles : goal.returns-then-going-clause-settles
-returns-then-going-clause-settles c = search (rules, extensions, settlings, unchanged)
+returns-then-going-clause-settles c = search (rules, extensions, settlings)
 
 pub returns-clause-settles : goal.returns-clause-settles
-returns-clause-settles c = search (rules, extensions, settlings, unchanged)
+returns-clause-settles c = search (rules, extensions, settlings)
