@@ -7,4 +7,4 @@ pub returns-in-Ends : goal.returns-in-Ends
 returns-in-Ends c = search (rules, place_fits, inputs)
 
 pub returns-in-Refused : goal.returns-in-Refused
-returns-in-Refused c = search (rules, place_fits, inputs)
+returns-in-Refused c = search (rules, inputs)
