@@ -12,7 +12,7 @@ use Rattle.meaning.specs.Steps.State.{Bound, repl}
 use Rattle.buffer.specs.Buffer.{Within}
 use Rattle.buffer.proofs.Laws.Buffer.{unchanged}
 use Rattle.state_head.specs.News.{news}
-use Rattle.state_progress.specs.TraversalResult.{Accumulated, going, further, named, returned}
+use Rattle.state_progress.specs.TraversalResult.{Accumulated, further, named, returned}
 use Rattle.state_task.specs.Machine.{contains, sending, taking, at_repl}
 use Rattle.state_head.specs.Traversal.{go}
 use Rattle.state_task.specs.Copies.{within, seeking, target, seeking_in, passes, finding, taken, builder, rebuilt, building_in}

@@ -1,11 +1,6 @@
 -- The traversal of a process meets its contract: `state_traversal::traverse::traverse` and the functions for each kind of process and for the copies of a repl
 -- thread call each other. The measure is the number of process nodes left, twelve steps to a node.
-use Rattle.std.proofs.Common.{◌≤◌, ◌<◌, length, ◌≡◌, ℕ, ◌+◌, ◌-◌, ◌*◌}
-use Rattle.buffer.specs.Buffer.{WrittenFrom}
-use Rattle.state_head.specs.Traverse.{Leaves, Traverses, HeadTraverses, TraversesIf, AtPrefix, ActsAs, SettlesContinuation, Receives, Performs, OpensBoth, OpensBy, Opens, Returns}
-use Rattle.state_progress.specs.Progress.{Extends}
-use Rattle.state_head.specs.Head.{RoomAtNode, BoundFits}
-use Rattle.index_process.specs.Index.{ShortModel}
+use Rattle.std.proofs.Common.{◌+◌, ◌*◌}
 use Rattle.state_traversal.proofs.traverse.+act_both_copy_enter_follow_inside_node_pair_perform_prefix_receive_repl_traverse.Given as goal
 
 abbrev pub decreases-act : goal.decreases-act
