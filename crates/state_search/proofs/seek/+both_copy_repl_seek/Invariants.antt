@@ -1,11 +1,6 @@
 -- The traversal that seeks an offer meets its contract: `state_search::seek::seek` and the functions for a par, a repl thread and its copy call each
 -- other. The measure is the number of process nodes left, three steps to a node.
-use Rattle.std.proofs.Common.{◌≡◌, ◌+◌, ◌≤◌, ◌<◌, length, ℕ, ◌-◌, ◌*◌}
-use Rattle.buffer.specs.Buffer.{WrittenFrom}
-use Rattle.state_task.specs.Thread.{Seeks}
-use Rattle.state_search.specs.Seek.{begun_at, reached, GivesBack, Comes, SeekTraverses, SeekTraversesIf, SeekOpens}
-use Rattle.state_head.specs.Head.{RoomAtNode, BoundFits}
-use Rattle.index_process.specs.Index.{ShortModel}
+use Rattle.std.proofs.Common.{◌+◌, ◌*◌}
 use Rattle.state_search.proofs.seek.+both_copy_repl_seek.Given as goal
 
 abbrev pub decreases-both : goal.decreases-both
