@@ -1,13 +1,6 @@
 -- The traversal that builds meets its contract: `state_build::build::build` and the functions for a head, a par, a repl thread and its copy call each
 -- other. The measure is the number of process nodes left, seven steps to a node.
-use Rattle.std.proofs.Common.{◌≤◌, ◌<◌, length, ◌≡◌, ℕ, ◌+◌, ◌-◌, ◌*◌}
-use Rattle.buffer.specs.Buffer.{WrittenFrom}
-use Rattle.state_progress.specs.Progress.{Extends}
-use Rattle.state_task.specs.declared.task.Task.TheVariants.{Build}
-use Rattle.state_head.specs.Traverse.{Leaves, Traverses, HeadTraverses, TraversesIf, Opens, Returns}
-use Rattle.state_build.specs.Build.{OpensBuilt}
-use Rattle.state_head.specs.Head.{RoomAtNode, BoundFits}
-use Rattle.index_process.specs.Index.{ShortModel}
+use Rattle.std.proofs.Common.{◌+◌, ◌*◌}
 use Rattle.state_build.proofs.build.+both_build_copy_enter_inside_node_repl.Given as goal
 
 abbrev pub decreases-both : goal.decreases-both
