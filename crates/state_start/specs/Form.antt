@@ -1,7 +1,6 @@
 -- The start state, and whatever state is reached, formed in the work bytes ("Steps"; "Judging and its count").
 use Rattle.std.specs.Prelude.{◌≡◌, true, false, List, ℕ, ◌≤◌, ◌<◌}
 use Rattle.meaning.specs.Bytes.Process.{Process}
-use Rattle.meaning.specs.Steps.State
 use Rattle.meaning.specs.Judging.Visits.{Arrival, start_arrival}
 use Rattle.state_record.specs.declared.state.State as code
 use Rattle.state_layout.specs.Layout.{StateAt, over_arrival, ModelIn}
