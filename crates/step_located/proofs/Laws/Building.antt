@@ -6,7 +6,7 @@ use mathlib.Core.List.{List}
 use Rattle.meaning.specs.Messages.Term.{Message}
 use Rattle.meaning.specs.Bytes.Process.{Prefix, Process}
 use Rattle.meaning.specs.Places.{Every, none, ◌also◌}
-use Rattle.meaning.specs.Steps.State.{Bound, act, repl, names}
+use Rattle.meaning.specs.Steps.State.{Bound, repl, names}
 use Rattle.meaning.specs.Steps.Invariant.{BoundStored}
 use Rattle.meaning.specs.Judging.Limits.{over_settling}
 use Rattle.meaning.proofs.Every.{every_map, every_joined}

@@ -9,7 +9,7 @@ use borrow.Author.Tests.{eq-eqb}
 use Rattle.meaning.specs.Messages.Normal.{equal}
 use Rattle.meaning.specs.Bytes.Process.{Prefix, Process}
 use Rattle.meaning.specs.Places.{Every, none, ◌also◌}
-use Rattle.meaning.specs.Steps.State.{Bound, written, Thread, act, repl, names}
+use Rattle.meaning.specs.Steps.State.{Bound, written, Thread, repl, names}
 use Rattle.meaning.proofs.Test.{chosen as tested}
 use Rattle.meaning.proofs.Every.{every_map, every_joined}
 use Rattle.state_record.specs.Place.{right_at}
