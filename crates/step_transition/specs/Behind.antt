@@ -1,7 +1,6 @@
 -- The steps of a label, those that come behind one of them, and room to search for them ("Steps").
 use Rattle.std.specs.Prelude.{◌≡◌, true, false, List, ◌∷◌, ◌++◌, ℕ, ◌+◌, ◌≤◌, length}
 use Rattle.meaning.specs.Messages.Term.{Message}
-use Rattle.meaning.specs.Steps.State.{State}
 use Rattle.state_record.specs.Record.{Placed}
 use Rattle.state_record.specs.declared.state.State as code
 use Rattle.step_transition.specs.Moves.{Move, labelled_moves, silent_moves}
