@@ -9,48 +9,51 @@ use Rattle.state_build.proofs.Laws.Build.{copy_built, builts, is_act, repl_built
 use Rattle.state_head.proofs.Laws.Copy.{copies, names_back}
 use Rattle.state_build.proofs.build.+both_build_copy_enter_inside_node_repl.Goals as goal
 
+-- What the answers share.
+ruleset shared = (extensions, to_ends, records_ends, traverses, rooms, copies, builts, nodes)
+
 pub both-returns-clause-leaves : goal.both-returns-clause-leaves
-both-returns-clause-leaves t c = search (rules, extensions, to_ends, records_ends, par_traversed, unchanged, traverses, rooms, copy_built, copies, builts, names_back, nodes, is_act, repl_built)
+both-returns-clause-leaves t c = search (rules, shared, par_traversed, unchanged, copy_built, names_back, is_act, repl_built)
 
 pub both-returns-clause-traverses_if : goal.both-returns-clause-traverses_if
-both-returns-clause-traverses_if t c = search (rules, extensions, to_ends, records_ends, par_traversed, traverses, rooms, copies, builts, nodes)
+both-returns-clause-traverses_if t c = search (rules, shared, par_traversed)
 
 pub build-returns-then-there-clause-traverses : goal.build-returns-then-there-clause-traverses
-build-returns-then-there-clause-traverses t c = search (rules, extensions, to_ends, records_ends, traverses, rooms, copies, builts, nodes)
+build-returns-then-there-clause-traverses t c = search (rules, shared)
 
 pub build-returns-clause-traverses : goal.build-returns-clause-traverses
-build-returns-clause-traverses t c = search (rules, extensions, to_ends, records_ends, traverses, rooms, copies, builts, nodes)
+build-returns-clause-traverses t c = search (rules, shared)
 
 pub copy-returns-in-Names-clause-opens : goal.copy-returns-in-Names-clause-opens
-copy-returns-in-Names-clause-opens t c = search (rules, extensions, to_ends, records_ends, traverses, rooms, copy_built, copies, builts, nodes)
+copy-returns-in-Names-clause-opens t c = search (rules, shared, copy_built)
 
 pub copy-returns-in-OverLimit-clause-opens : goal.copy-returns-in-OverLimit-clause-opens
-copy-returns-in-OverLimit-clause-opens t c = search (rules, extensions, to_ends, records_ends, traverses, rooms, copy_built, copies, builts, nodes)
+copy-returns-in-OverLimit-clause-opens t c = search (rules, shared, copy_built)
 
 pub enter-returns-then-contains-clause-opens_built :
     goal.enter-returns-then-contains-clause-opens_built
-enter-returns-then-contains-clause-opens_built t c = search (rules, extensions, to_ends, records_ends, traverses, rooms, copies, builts, nodes)
+enter-returns-then-contains-clause-opens_built t c = search (rules, shared)
 
 pub enter-returns-then-sender-eq0-clause-opens_built :
     goal.enter-returns-then-sender-eq0-clause-opens_built
-enter-returns-then-sender-eq0-clause-opens_built t c = search (rules, extensions, to_ends, records_ends, traverses, rooms, copies, builts, nodes)
+enter-returns-then-sender-eq0-clause-opens_built t c = search (rules, shared)
 
 pub enter-returns-then-contains-2-clause-opens_built :
     goal.enter-returns-then-contains-2-clause-opens_built
-enter-returns-then-contains-2-clause-opens_built t c = search (rules, extensions, to_ends, records_ends, traverses, rooms, copies, builts, nodes)
+enter-returns-then-contains-2-clause-opens_built t c = search (rules, shared)
 
 pub enter-returns-clause-opens_built : goal.enter-returns-clause-opens_built
-enter-returns-clause-opens_built t c = search (rules, extensions, to_ends, records_ends, traverses, rooms, copies, builts, nodes)
+enter-returns-clause-opens_built t c = search (rules, shared)
 
 pub node-returns-then-kind-eq-NIL-clause-head_traverses :
     goal.node-returns-then-kind-eq-NIL-clause-head_traverses
-node-returns-then-kind-eq-NIL-clause-head_traverses t c = search (rules, extensions, to_ends, records_ends, traverses, rooms, copies, builts, nodes, is_act)
+node-returns-then-kind-eq-NIL-clause-head_traverses t c = search (rules, shared, is_act)
 
 pub node-returns-clause-head_traverses : goal.node-returns-clause-head_traverses
-node-returns-clause-head_traverses t c = search (rules, extensions, to_ends, records_ends, traverses, rooms, copies, builts, nodes, is_act)
+node-returns-clause-head_traverses t c = search (rules, shared, is_act)
 
 pub repl-returns-clause-leaves : goal.repl-returns-clause-leaves
-repl-returns-clause-leaves t c = search (rules, extensions, to_ends, records_ends, par_traversed, unchanged, traverses, rooms, copy_built, copies, builts, names_back, nodes, is_act, repl_built)
+repl-returns-clause-leaves t c = search (rules, shared, par_traversed, unchanged, copy_built, names_back, is_act, repl_built)
 
 pub repl-returns-clause-traverses_if : goal.repl-returns-clause-traverses_if
-repl-returns-clause-traverses_if t c = search (rules, extensions, to_ends, records_ends, traverses, rooms, copies, builts, nodes, repl_built)
+repl-returns-clause-traverses_if t c = search (rules, shared, repl_built)

@@ -8,18 +8,21 @@ use Rattle.buffer.proofs.Laws.Buffer.{unchanged}
 use Rattle.state_head.proofs.Laws.Fixed.{fixed_ones}
 use Rattle.state_head.proofs.count.+both_by_head_count.Goals as goal
 
+-- What the answers share.
+ruleset shared = (to_ends, pars_counted, rooms, heads_counted, unchanged, fixed_ones)
+
 pub both-returns-in-Names-clause-counts_if : goal.both-returns-in-Names-clause-counts_if
-both-returns-in-Names-clause-counts_if t c = search (rules, to_ends, pars_counted, rooms, heads_counted, unchanged, fixed_ones)
+both-returns-in-Names-clause-counts_if t c = search (rules, shared)
 
 pub both-returns-in-OverLimit-clause-counts_if : goal.both-returns-in-OverLimit-clause-counts_if
-both-returns-in-OverLimit-clause-counts_if t c = search (rules, to_ends, pars_counted, rooms, heads_counted, unchanged, fixed_ones)
+both-returns-in-OverLimit-clause-counts_if t c = search (rules, shared)
 
 pub by_head-returns-then-wide-eq-PAR-clause-counts :
     goal.by_head-returns-then-wide-eq-PAR-clause-counts
-by_head-returns-then-wide-eq-PAR-clause-counts t c = search (rules, to_ends, pars_counted, rooms, heads_counted, unchanged, fixed_ones)
+by_head-returns-then-wide-eq-PAR-clause-counts t c = search (rules, shared)
 
 pub by_head-returns-then-going-clause-counts : goal.by_head-returns-then-going-clause-counts
-by_head-returns-then-going-clause-counts t c = search (rules, to_ends, pars_counted, rooms, heads_counted, unchanged, fixed_ones)
+by_head-returns-then-going-clause-counts t c = search (rules, shared)
 
 pub by_head-returns-clause-counts : goal.by_head-returns-clause-counts
-by_head-returns-clause-counts t c = search (rules, to_ends, pars_counted, rooms, heads_counted, unchanged, fixed_ones)
+by_head-returns-clause-counts t c = search (rules, shared)

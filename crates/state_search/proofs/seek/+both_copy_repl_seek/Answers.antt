@@ -6,52 +6,55 @@ use Rattle.state_search.proofs.Laws.Seek.{pars_sought, copies_sought, repls_soug
 use Rattle.state_head.proofs.Laws.Head.{rooms}
 use Rattle.state_search.proofs.seek.+both_copy_repl_seek.Goals as goal
 
+-- What the answers share.
+ruleset shared = (to_ends, pars_sought, copies_sought, repls_sought, rooms, heads_sought)
+
 pub both-returns-in-On-clause-seek_traverses_if : goal.both-returns-in-On-clause-seek_traverses_if
-both-returns-in-On-clause-seek_traverses_if t c = search (rules, to_ends, pars_sought, copies_sought, repls_sought, rooms, heads_sought)
+both-returns-in-On-clause-seek_traverses_if t c = search (rules, shared)
 
 pub both-returns-in-Ended-clause-seek_traverses_if :
     goal.both-returns-in-Ended-clause-seek_traverses_if
-both-returns-in-Ended-clause-seek_traverses_if t c = search (rules, to_ends, pars_sought, copies_sought, repls_sought, rooms, heads_sought)
+both-returns-in-Ended-clause-seek_traverses_if t c = search (rules, shared)
 
 pub copy-returns-in-Names-clause-seek_opens : goal.copy-returns-in-Names-clause-seek_opens
-copy-returns-in-Names-clause-seek_opens t c = search (rules, to_ends, pars_sought, copies_sought, repls_sought, rooms, heads_sought)
+copy-returns-in-Names-clause-seek_opens t c = search (rules, shared)
 
 pub copy-returns-in-OverLimit-clause-seek_opens : goal.copy-returns-in-OverLimit-clause-seek_opens
-copy-returns-in-OverLimit-clause-seek_opens t c = search (rules, to_ends, pars_sought, copies_sought, repls_sought, rooms, heads_sought)
+copy-returns-in-OverLimit-clause-seek_opens t c = search (rules, shared)
 
 pub repl-returns-then-contains-clause-seek_traverses_if :
     goal.repl-returns-then-contains-clause-seek_traverses_if
-repl-returns-then-contains-clause-seek_traverses_if t c = search (rules, to_ends, pars_sought, copies_sought, repls_sought, rooms, heads_sought)
+repl-returns-then-contains-clause-seek_traverses_if t c = search (rules, shared)
 
 pub repl-returns-clause-seek_traverses_if : goal.repl-returns-clause-seek_traverses_if
-repl-returns-clause-seek_traverses_if t c = search (rules, to_ends, pars_sought, copies_sought, repls_sought, rooms, heads_sought)
+repl-returns-clause-seek_traverses_if t c = search (rules, shared)
 
 pub seek-returns-then-kind-eq-NIL-clause-seek_traverses :
     goal.seek-returns-then-kind-eq-NIL-clause-seek_traverses
-seek-returns-then-kind-eq-NIL-clause-seek_traverses t c = search (rules, to_ends, pars_sought, copies_sought, repls_sought, rooms, heads_sought)
+seek-returns-then-kind-eq-NIL-clause-seek_traverses t c = search (rules, shared)
 
 pub seek-returns-then-kind-eq-PAR-clause-written_from :
     goal.seek-returns-then-kind-eq-PAR-clause-written_from
-seek-returns-then-kind-eq-PAR-clause-written_from t c = search (rules, to_ends, pars_sought, copies_sought, repls_sought, rooms, heads_sought)
+seek-returns-then-kind-eq-PAR-clause-written_from t c = search (rules, shared)
 
 pub seek-returns-then-kind-eq-PAR-clause-seek_traverses :
     goal.seek-returns-then-kind-eq-PAR-clause-seek_traverses
-seek-returns-then-kind-eq-PAR-clause-seek_traverses t c = search (rules, to_ends, pars_sought, copies_sought, repls_sought, rooms, heads_sought)
+seek-returns-then-kind-eq-PAR-clause-seek_traverses t c = search (rules, shared)
 
 pub seek-returns-then-kind-eq-REPL-clause-written_from :
     goal.seek-returns-then-kind-eq-REPL-clause-written_from
-seek-returns-then-kind-eq-REPL-clause-written_from t c = search (rules, to_ends, pars_sought, copies_sought, repls_sought, rooms, heads_sought)
+seek-returns-then-kind-eq-REPL-clause-written_from t c = search (rules, shared)
 
 pub seek-returns-then-kind-eq-REPL-clause-seek_traverses :
     goal.seek-returns-then-kind-eq-REPL-clause-seek_traverses
-seek-returns-then-kind-eq-REPL-clause-seek_traverses t c = search (rules, to_ends, pars_sought, copies_sought, repls_sought, rooms, heads_sought)
+seek-returns-then-kind-eq-REPL-clause-seek_traverses t c = search (rules, shared)
 
 pub seek-returns-then-going-clause-written_from : goal.seek-returns-then-going-clause-written_from
-seek-returns-then-going-clause-written_from t c = search (rules, to_ends, pars_sought, copies_sought, repls_sought, rooms, heads_sought)
+seek-returns-then-going-clause-written_from t c = search (rules, shared)
 
 pub seek-returns-then-going-clause-seek_traverses :
     goal.seek-returns-then-going-clause-seek_traverses
-seek-returns-then-going-clause-seek_traverses t c = search (rules, to_ends, pars_sought, copies_sought, repls_sought, rooms, heads_sought)
+seek-returns-then-going-clause-seek_traverses t c = search (rules, shared)
 
 pub seek-returns-clause-seek_traverses : goal.seek-returns-clause-seek_traverses
-seek-returns-clause-seek_traverses t c = search (rules, to_ends, pars_sought, copies_sought, repls_sought, rooms, heads_sought)
+seek-returns-clause-seek_traverses t c = search (rules, shared)

@@ -10,85 +10,88 @@ use Rattle.state_traversal.proofs.Laws.Repl.{opens, pairs, performances, repls}
 use Rattle.state_head.proofs.Laws.Head.{rooms}
 use Rattle.state_traversal.proofs.traverse.+act_both_copy_enter_follow_inside_node_pair_perform_prefix_receive_repl_traverse.Goals as goal
 
+-- What the answers share.
+ruleset shared = (extensions, to_ends, records_ends, located_offers, copies, opens, nodes, prefixes, receipts, traverses, rooms)
+
 pub act-returns-then-at-sender-clause-acts_as : goal.act-returns-then-at-sender-clause-acts_as
-act-returns-then-at-sender-clause-acts_as t c = search (rules, extensions, to_ends, records_ends, located_offers, copies, opens, nodes, prefixes, receipts, traverses, rooms)
+act-returns-then-at-sender-clause-acts_as t c = search (rules, shared)
 
 pub act-returns-then-at-taker-clause-acts_as : goal.act-returns-then-at-taker-clause-acts_as
-act-returns-then-at-taker-clause-acts_as t c = search (rules, extensions, to_ends, records_ends, located_offers, copies, opens, nodes, prefixes, receipts, traverses, rooms)
+act-returns-then-at-taker-clause-acts_as t c = search (rules, shared)
 
 pub act-returns-clause-acts_as : goal.act-returns-clause-acts_as
-act-returns-clause-acts_as t c = search (rules, extensions, to_ends, records_ends, located_offers, copies, opens, nodes, prefixes, receipts, traverses, rooms)
+act-returns-clause-acts_as t c = search (rules, shared)
 
 pub both-returns-clause-leaves : goal.both-returns-clause-leaves
-both-returns-clause-leaves t c = search (rules, extensions, to_ends, records_ends, located_offers, unchanged, par_traversed, copies, opens, followed, names_back, nodes, pairs, performances, prefixes, receipts, to_end_bound, repls, traverses, rooms)
+both-returns-clause-leaves t c = search (rules, shared, unchanged, par_traversed, followed, names_back, pairs, performances, to_end_bound, repls)
 
 pub both-returns-clause-traverses_if : goal.both-returns-clause-traverses_if
-both-returns-clause-traverses_if t c = search (rules, extensions, to_ends, records_ends, located_offers, par_traversed, copies, opens, nodes, prefixes, receipts, traverses, rooms)
+both-returns-clause-traverses_if t c = search (rules, shared, par_traversed)
 
 pub copy-returns-in-Names-clause-opens : goal.copy-returns-in-Names-clause-opens
-copy-returns-in-Names-clause-opens t c = search (rules, extensions, to_ends, records_ends, located_offers, copies, opens, nodes, prefixes, receipts, traverses, rooms)
+copy-returns-in-Names-clause-opens t c = search (rules, shared)
 
 pub copy-returns-in-OverLimit-clause-opens : goal.copy-returns-in-OverLimit-clause-opens
-copy-returns-in-OverLimit-clause-opens t c = search (rules, extensions, to_ends, records_ends, located_offers, copies, opens, nodes, prefixes, receipts, traverses, rooms)
+copy-returns-in-OverLimit-clause-opens t c = search (rules, shared)
 
 pub enter-returns-in-Again-clause-opens_by : goal.enter-returns-in-Again-clause-opens_by
-enter-returns-in-Again-clause-opens_by t c = search (rules, extensions, to_ends, records_ends, located_offers, copies, opens, nodes, prefixes, receipts, traverses, rooms)
+enter-returns-in-Again-clause-opens_by t c = search (rules, shared)
 
 pub node-returns-then-kind-eq-NIL-clause-head_traverses :
     goal.node-returns-then-kind-eq-NIL-clause-head_traverses
-node-returns-then-kind-eq-NIL-clause-head_traverses t c = search (rules, extensions, to_ends, records_ends, located_offers, copies, opens, nodes, prefixes, receipts, traverses, rooms)
+node-returns-then-kind-eq-NIL-clause-head_traverses t c = search (rules, shared)
 
 pub node-returns-clause-head_traverses : goal.node-returns-clause-head_traverses
-node-returns-clause-head_traverses t c = search (rules, extensions, to_ends, records_ends, located_offers, copies, opens, nodes, prefixes, receipts, traverses, rooms)
+node-returns-clause-head_traverses t c = search (rules, shared)
 
 pub pair-returns-clause-leaves : goal.pair-returns-clause-leaves
-pair-returns-clause-leaves t c = search (rules, extensions, to_ends, records_ends, located_offers, unchanged, par_traversed, copies, opens, followed, names_back, nodes, pairs, performances, prefixes, receipts, to_end_bound, repls, traverses, rooms)
+pair-returns-clause-leaves t c = search (rules, shared, unchanged, par_traversed, followed, names_back, pairs, performances, to_end_bound, repls)
 
 pub pair-returns-clause-opens_both : goal.pair-returns-clause-opens_both
-pair-returns-clause-opens_both t c = search (rules, extensions, to_ends, records_ends, located_offers, copies, opens, nodes, pairs, prefixes, receipts, traverses, rooms)
+pair-returns-clause-opens_both t c = search (rules, shared, pairs)
 
 pub perform-returns-clause-leaves : goal.perform-returns-clause-leaves
-perform-returns-clause-leaves t c = search (rules, extensions, to_ends, records_ends, located_offers, unchanged, par_traversed, copies, opens, followed, names_back, nodes, pairs, performances, prefixes, receipts, to_end_bound, repls, traverses, rooms)
+perform-returns-clause-leaves t c = search (rules, shared, unchanged, par_traversed, followed, names_back, pairs, performances, to_end_bound, repls)
 
 pub perform-returns-clause-performs : goal.perform-returns-clause-performs
-perform-returns-clause-performs t c = search (rules, extensions, to_ends, records_ends, located_offers, copies, opens, nodes, performances, prefixes, receipts, traverses, rooms)
+perform-returns-clause-performs t c = search (rules, shared, performances)
 
 pub prefix-returns-in-Count-clause-at_prefix : goal.prefix-returns-in-Count-clause-at_prefix
-prefix-returns-in-Count-clause-at_prefix t c = search (rules, extensions, to_ends, records_ends, located_offers, copies, opens, nodes, prefixes, receipts, traverses, rooms)
+prefix-returns-in-Count-clause-at_prefix t c = search (rules, shared)
 
 pub prefix-returns-in-Judge-clause-at_prefix : goal.prefix-returns-in-Judge-clause-at_prefix
-prefix-returns-in-Judge-clause-at_prefix t c = search (rules, extensions, to_ends, records_ends, located_offers, copies, opens, nodes, prefixes, receipts, traverses, rooms)
+prefix-returns-in-Judge-clause-at_prefix t c = search (rules, shared)
 
 pub prefix-returns-in-Settle-clause-at_prefix : goal.prefix-returns-in-Settle-clause-at_prefix
-prefix-returns-in-Settle-clause-at_prefix t c = search (rules, extensions, to_ends, records_ends, located_offers, copies, opens, nodes, prefixes, receipts, traverses, rooms)
+prefix-returns-in-Settle-clause-at_prefix t c = search (rules, shared)
 
 pub prefix-returns-in-Seek-clause-at_prefix : goal.prefix-returns-in-Seek-clause-at_prefix
-prefix-returns-in-Seek-clause-at_prefix t c = search (rules, extensions, to_ends, records_ends, located_offers, copies, opens, nodes, prefixes, receipts, traverses, rooms)
+prefix-returns-in-Seek-clause-at_prefix t c = search (rules, shared)
 
 pub prefix-returns-in-SeekIn-clause-at_prefix : goal.prefix-returns-in-SeekIn-clause-at_prefix
-prefix-returns-in-SeekIn-clause-at_prefix t c = search (rules, extensions, to_ends, records_ends, located_offers, copies, opens, nodes, prefixes, receipts, traverses, rooms)
+prefix-returns-in-SeekIn-clause-at_prefix t c = search (rules, shared)
 
 pub prefix-returns-in-Find-clause-at_prefix : goal.prefix-returns-in-Find-clause-at_prefix
-prefix-returns-in-Find-clause-at_prefix t c = search (rules, extensions, to_ends, records_ends, located_offers, copies, opens, nodes, prefixes, receipts, traverses, rooms)
+prefix-returns-in-Find-clause-at_prefix t c = search (rules, shared)
 
 pub prefix-returns-in-Build-clause-at_prefix : goal.prefix-returns-in-Build-clause-at_prefix
-prefix-returns-in-Build-clause-at_prefix t c = search (rules, extensions, to_ends, records_ends, located_offers, copies, opens, nodes, prefixes, receipts, traverses, rooms)
+prefix-returns-in-Build-clause-at_prefix t c = search (rules, shared)
 
 pub prefix-returns-in-BuildIn-clause-at_prefix : goal.prefix-returns-in-BuildIn-clause-at_prefix
-prefix-returns-in-BuildIn-clause-at_prefix t c = search (rules, extensions, to_ends, records_ends, located_offers, copies, opens, nodes, prefixes, receipts, traverses, rooms)
+prefix-returns-in-BuildIn-clause-at_prefix t c = search (rules, shared)
 
 pub receive-returns-clause-receives : goal.receive-returns-clause-receives
-receive-returns-clause-receives t c = search (rules, extensions, to_ends, records_ends, located_offers, copies, opens, nodes, prefixes, receipts, traverses, rooms)
+receive-returns-clause-receives t c = search (rules, shared)
 
 pub repl-returns-clause-leaves : goal.repl-returns-clause-leaves
-repl-returns-clause-leaves t c = search (rules, extensions, to_ends, records_ends, located_offers, unchanged, par_traversed, copies, opens, followed, names_back, nodes, pairs, performances, prefixes, receipts, to_end_bound, repls, traverses, rooms)
+repl-returns-clause-leaves t c = search (rules, shared, unchanged, par_traversed, followed, names_back, pairs, performances, to_end_bound, repls)
 
 pub repl-returns-clause-traverses_if : goal.repl-returns-clause-traverses_if
-repl-returns-clause-traverses_if t c = search (rules, extensions, to_ends, records_ends, located_offers, copies, opens, nodes, prefixes, receipts, repls, traverses, rooms)
+repl-returns-clause-traverses_if t c = search (rules, shared, repls)
 
 pub traverse-returns-then-there-clause-traverses :
     goal.traverse-returns-then-there-clause-traverses
-traverse-returns-then-there-clause-traverses t c = search (rules, extensions, to_ends, records_ends, located_offers, copies, opens, nodes, prefixes, receipts, traverses, rooms)
+traverse-returns-then-there-clause-traverses t c = search (rules, shared)
 
 pub traverse-returns-clause-traverses : goal.traverse-returns-clause-traverses
-traverse-returns-clause-traverses t c = search (rules, extensions, to_ends, records_ends, located_offers, copies, opens, nodes, prefixes, receipts, traverses, rooms)
+traverse-returns-clause-traverses t c = search (rules, shared)
