@@ -8,7 +8,7 @@ pub returns-then-last-quest : goal.returns-then-last-quest
 returns-then-last-quest c = search (rules, no_offers, spent)
 
 pub returns-then-meant : goal.returns-then-meant
-returns-then-meant c = search (rules, no_offers, spent)
+returns-then-meant c = search (rules, no_offers)
 
 pub returns : goal.returns
 returns c = search (rules, no_offers, spent)

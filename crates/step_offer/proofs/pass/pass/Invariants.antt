@@ -1,10 +1,7 @@
 -- `step_offer::pass::pass` meets its contract. The loop has gone over the records before the position.
 use Rattle.step_offer.specs.Pass.{SeeksAlike}
-use Rattle.std.proofs.Common.{◌+◌, ◌-◌, ◌≡◌, ◌≤◌, ◌<◌, length, ℕ, ◌*◌}
+use Rattle.std.proofs.Common.{◌-◌, ◌≤◌}
 use Rattle.step_offer.specs.Seek.{starting_at}
-use Rattle.step_offer.specs.Pass.{Differs, NoOffer, Skips, PassesRecords, Behind}
-use Rattle.index_process.specs.Index.{ShortModel}
-use Rattle.state_layout.specs.Layout.{RecordsFit}
 use Rattle.step_offer.proofs.pass.pass.Given as goal
 
 abbrev pub invariant-loop-i : goal.invariant-loop-i

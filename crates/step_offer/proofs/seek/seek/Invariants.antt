@@ -1,11 +1,7 @@
 -- `step_offer::seek::seek` meets its contract. The loop has looked at the records before the position, in vain.
 use Rattle.buffer.specs.Buffer.{Within}
 use Rattle.step_offer.proofs.Laws.Seek.{Comes}
-use Rattle.std.proofs.Common.{◌+◌, ◌-◌, ◌≡◌, ◌≤◌, ◌<◌, length, ℕ, ◌*◌}
-use Rattle.buffer.specs.Buffer.{WrittenFrom}
-use Rattle.step_offer.specs.Seek.{Looks, Alone, Seeks}
-use Rattle.index_process.specs.Index.{ShortModel}
-use Rattle.state_layout.specs.Layout.{RecordFits, RecordsFit}
+use Rattle.std.proofs.Common.{◌-◌, ◌≤◌, length}
 use Rattle.step_offer.proofs.seek.seek.Given as goal
 
 abbrev pub invariant-loop-i : goal.invariant-loop-i
