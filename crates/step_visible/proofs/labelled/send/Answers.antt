@@ -1,12 +1,11 @@
 -- `step_visible::labelled::send` meets its contract.
 use Rattle.std.proofs.Common.{rules}
 use Rattle.state_progress.proofs.Laws.Progress.{to_ends}
-use Rattle.buffer.proofs.Laws.Buffer.{unchanged}
 use Rattle.step_visible.proofs.Laws.Labelled.{follows}
 use Rattle.step_visible.proofs.labelled.send.Goals as goal
 
 pub returns-then-done-eq0-clause-next_visible : goal.returns-then-done-eq0-clause-next_visible
-returns-then-done-eq0-clause-next_visible c = search (rules, to_ends, unchanged, follows)
+returns-then-done-eq0-clause-next_visible c = search (rules, to_ends, follows)
 
 pub returns-clause-next_visible : goal.returns-clause-next_visible
-returns-clause-next_visible c = search (rules, to_ends, unchanged, follows)
+returns-clause-next_visible c = search (rules, to_ends, follows)
