@@ -1,6 +1,6 @@
 -- Silent steps of two threads are those of the definitions, in the same order, and what is left behind one of them is what comes after it
 -- ("Steps").
-use Prim.Native.Nat.{ℕ, ◌+◌}
+use Prim.Native.Nat.{ℕ}
 use native.Mathlib.Omega.{arith}
 use mathlib.Core.Path.{◌≡◌, refl, sym, ◌∙◌, ap, ap₂, subst}
 use mathlib.Core.Bool.{Bool, true, false, not}

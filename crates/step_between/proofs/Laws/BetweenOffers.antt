@@ -1,6 +1,6 @@
 -- The offers of a thread that meets no limit: what an output sends is short, and two bytes hold the private names after it ("Steps";
 -- "Judging and its count").
-use Prim.Native.Nat.{ℕ, ◌+◌, ◌-◌, ◌≤◌, ◌<◌}
+use Prim.Native.Nat.{ℕ, ◌+◌, ◌≤◌, ◌<◌}
 use native.Mathlib.Omega.{arith}
 use mathlib.Core.Path.{◌≡◌}
 use mathlib.Core.Bool.{true}

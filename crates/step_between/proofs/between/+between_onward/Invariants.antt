@@ -1,9 +1,6 @@
 -- `step_between::between::between` and `onward` meet their contracts. The measure is how much is left of the records and of the model in the first of
 -- them.
-use Rattle.std.proofs.Common.{◌≤◌, length, ◌≡◌, ℕ, ◌+◌, ◌-◌, ◌*◌, ◌<◌}
-use Rattle.buffer.specs.Buffer.{SameLength, WrittenFrom}
-use Rattle.step_between.specs.Between.{IsAhead, NextSender, Takes, Pairs, NextMeeting, Betweens}
-use Rattle.state_layout.specs.Layout.{RecordsFit}
+use Rattle.std.proofs.Common.{◌+◌, ◌-◌, ◌*◌}
 use Rattle.step_between.proofs.between.+between_onward.Given as goal
 
 abbrev pub decreases-between : goal.decreases-between
