@@ -8,7 +8,7 @@ use Rattle.step_copies.proofs.copy_step.+begin_copy_step_pass.Goals as goal
 
 pub begin-returns-then-no_silent-clause-next_after_copies :
     goal.begin-returns-then-no_silent-clause-next_after_copies
-begin-returns-then-no_silent-clause-next_after_copies t c = search (rules, to_ends, passings, unchanged, joinings)
+begin-returns-then-no_silent-clause-next_after_copies t c = search (rules, to_ends, passings, joinings)
 
 pub copy_step-returns-then-to-at-clause-next_in_copies :
     goal.copy_step-returns-then-to-at-clause-next_in_copies
@@ -16,15 +16,15 @@ copy_step-returns-then-to-at-clause-next_in_copies t c = search (rules, to_ends,
 
 pub copy_step-returns-then-to-at-lt4-clause-next_in_copies :
     goal.copy_step-returns-then-to-at-lt4-clause-next_in_copies
-copy_step-returns-then-to-at-lt4-clause-next_in_copies t c = search (rules, to_ends, passings, unchanged, joinings)
+copy_step-returns-then-to-at-lt4-clause-next_in_copies t c = search (rules, to_ends, passings, joinings)
 
 pub copy_step-returns-then-copy-eq0-clause-next_in_copies :
     goal.copy_step-returns-then-copy-eq0-clause-next_in_copies
-copy_step-returns-then-copy-eq0-clause-next_in_copies t c = search (rules, to_ends, passings, unchanged, joinings)
+copy_step-returns-then-copy-eq0-clause-next_in_copies t c = search (rules, to_ends, passings, joinings)
 
 pub copy_step-returns-in-Found-clause-next_in_copies :
     goal.copy_step-returns-in-Found-clause-next_in_copies
-copy_step-returns-in-Found-clause-next_in_copies t c = search (rules, to_ends, passings, unchanged, joinings)
+copy_step-returns-in-Found-clause-next_in_copies t c = search (rules, to_ends, passings, joinings)
 
 pub copy_step-returns-in-None-clause-next_in_copies :
     goal.copy_step-returns-in-None-clause-next_in_copies
@@ -35,11 +35,11 @@ copy_step-returns-in-None-clause-next_in_copies t c =
 
 pub pass-returns-then-arity-eq1-clause-next_after_copies :
     goal.pass-returns-then-arity-eq1-clause-next_after_copies
-pass-returns-then-arity-eq1-clause-next_after_copies t c = search (rules, to_ends, passings, unchanged, joinings)
+pass-returns-then-arity-eq1-clause-next_after_copies t c = search (rules, to_ends, passings, joinings)
 
 pub pass-returns-then-going-clause-next_after_copies :
     goal.pass-returns-then-going-clause-next_after_copies
-pass-returns-then-going-clause-next_after_copies t c = search (rules, to_ends, passings, unchanged, joinings)
+pass-returns-then-going-clause-next_after_copies t c = search (rules, to_ends, passings, joinings)
 
 pub pass-returns-clause-next_after_copies : goal.pass-returns-clause-next_after_copies
-pass-returns-clause-next_after_copies t c = search (rules, to_ends, passings, unchanged, joinings)
+pass-returns-clause-next_after_copies t c = search (rules, to_ends, passings, joinings)

@@ -1,10 +1,6 @@
 -- `step_copies::copy_step::copy_step`, `begin` and `pass` meet their contracts. The measure is the number of bytes of the records to come, and then how
 -- many times one copy or two of a repl thread are still looked at.
-use Rattle.std.proofs.Common.{◌+◌, ◌≤◌, length, ◌≡◌, ℕ, ◌-◌, ◌*◌, ◌<◌}
-use Rattle.buffer.specs.Buffer.{SameLength, WrittenFrom}
-use Rattle.step_copies.specs.CopyStep.{NoSilent, Finds, NextInCopies, NextAfterCopies}
-use Rattle.index_process.specs.Index.{ShortModel}
-use Rattle.state_layout.specs.Layout.{RecordFits, RecordsFit}
+use Rattle.std.proofs.Common.{◌+◌, ◌-◌, ◌*◌}
 use Rattle.step_copies.proofs.copy_step.+begin_copy_step_pass.Given as goal
 
 abbrev pub decreases-begin : goal.decreases-begin
