@@ -22,7 +22,7 @@ use Rattle.step_copies.specs.CopyStep.{NextInCopies}
 use Rattle.step_transition.specs.Resumption.{Resumed}
 use Rattle.step_between.specs.Buffered.{Resuming}
 use Rattle.step_between.specs.Between.{Betweens}
-use Rattle.step_transition.specs.Behind.{before, Behind, all, later}
+use Rattle.step_transition.specs.Behind.{Behind, all, later}
 use Rattle.step_next.specs.Next.{place_of, NextFrom}
 use Rattle.step_label.specs.declared.step.Step as step
 use Rattle.step_label.specs.declared.step.Label.TheVariants.{Silent}
