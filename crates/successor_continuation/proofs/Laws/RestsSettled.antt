@@ -6,7 +6,6 @@ use mathlib.Core.Bool.{Bool, true, false, ◌||◌}
 use mathlib.Core.List.{List}
 use Rattle.meaning.specs.Messages.Term.{Message}
 use Rattle.meaning.specs.Bytes.Process.{Prefix, output, input, Process}
-use Rattle.meaning.specs.Bytes.Standing.{Stands}
 use Rattle.meaning.specs.Steps.State.{Bound, ◌▸◌, names, State}
 use Rattle.meaning.specs.Judging.Limits.{over_settling}
 use Rattle.meaning.proofs.Every.{every_split}

@@ -6,7 +6,7 @@ use mathlib.Core.List.{List, ◌∷◌}
 use lib.ListN.{length}
 use Rattle.meaning.specs.Bytes.Process.{Process}
 use Rattle.state_record.specs.Place.{ProcessAt}
-use Rattle.meaning.specs.Steps.State.{names, State}
+use Rattle.meaning.specs.Steps.State.{State}
 use Rattle.meaning.proofs.Every.{every_split}
 use Rattle.state_record.specs.Record.{Placed, process_of, bound_of, encode_record}
 use Rattle.state_head.specs.News.{news, later_news}

@@ -10,7 +10,7 @@ use Rattle.meaning.proofs.Bytes.Reading.Place.{parts}
 use Rattle.buffer.specs.Buffer.{Within}
 use Rattle.buffer.proofs.Laws.Buffer.{kept, unchanged, wider}
 use Rattle.state_record.specs.Record.{Placed, encode_records}
-use Rattle.state_progress.specs.TraversalResult.{going, further}
+use Rattle.state_progress.specs.TraversalResult.{further}
 use Rattle.state_progress.specs.Progress.{Extends}
 use Rattle.state_record.specs.declared.state.State as code
 use Rattle.state_progress.specs.declared.progress.Progress.{Progress}

@@ -1,7 +1,7 @@
 -- The blocks before a record and behind it: the shorter one is measured, and the other one has the rest ("Steps").
 use mathlib.Core.Path.{◌≡◌}
 use mathlib.Core.List.{List}
-use Prim.Native.Nat.{ℕ, ◌-◌, ◌≤◌}
+use Prim.Native.Nat.{ℕ, ◌≤◌}
 use native.Mathlib.Omega.{arith}
 use lib.ListN.{length}
 use Rattle.step_located.specs.Rebuilt.{nodes_of}

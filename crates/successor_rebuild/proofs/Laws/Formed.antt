@@ -9,7 +9,7 @@ use lib.Dec.{ltb}
 use lib.ListN.{length}
 use Rattle.meaning.specs.Messages.Term.{Message}
 use Rattle.meaning.specs.Bytes.Process.{output, input}
-use Rattle.meaning.specs.Places.{Every, none, ◌also◌}
+use Rattle.meaning.specs.Places.{Every, ◌also◌}
 use Rattle.meaning.specs.Steps.State.{Bound, State}
 use Rattle.meaning.specs.Judging.Limits.{bound_nodes, thread_nodes}
 use Rattle.meaning.proofs.Every.{every_parts}

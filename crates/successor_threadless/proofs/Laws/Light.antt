@@ -22,7 +22,7 @@ use Rattle.state_head.specs.Settled.{settled_to, over_settled}
 use Rattle.state_head.specs.Traversal.{go}
 use Rattle.state_head.proofs.Laws.Settling.{settles}
 use Rattle.step_transition.specs.Focus.{Focus, focuses, focuses_from}
-use Rattle.step_transition.specs.Outcome.{same, exchanged, both_exchanged}
+use Rattle.step_transition.specs.Outcome.{exchanged, both_exchanged}
 use Rattle.step_transition.proofs.Laws.MovesFocuses.{Stands, exchanged_is}
 
 -- What lists weigh, if two of them weigh what both do.

@@ -8,7 +8,7 @@ pub returns-then-state-lt4-clause-counts_actor : goal.returns-then-state-lt4-cla
 returns-then-state-lt4-clause-counts_actor c = search (rules, unchanged, actors)
 
 pub returns-then-state-at-clause-counts_actor : goal.returns-then-state-at-clause-counts_actor
-returns-then-state-at-clause-counts_actor c = search (rules, unchanged, actors)
+returns-then-state-at-clause-counts_actor c = search (rules, actors)
 
 pub returns-clause-counts_actor : goal.returns-clause-counts_actor
-returns-clause-counts_actor c = search (rules, unchanged, actors)
+returns-clause-counts_actor c = search (rules, actors)

@@ -8,10 +8,10 @@ pub returns-then-state-lt4-clause-counts_taker : goal.returns-then-state-lt4-cla
 returns-then-state-lt4-clause-counts_taker c = search (rules, unchanged, takings)
 
 pub returns-then-state-at-clause-counts_taker : goal.returns-then-state-at-clause-counts_taker
-returns-then-state-at-clause-counts_taker c = search (rules, unchanged, takings)
+returns-then-state-at-clause-counts_taker c = search (rules, takings)
 
 pub returns-then-arity-eq0-clause-counts_taker : goal.returns-then-arity-eq0-clause-counts_taker
-returns-then-arity-eq0-clause-counts_taker c = search (rules, unchanged, takings)
+returns-then-arity-eq0-clause-counts_taker c = search (rules, takings)
 
 pub returns-clause-counts_taker : goal.returns-clause-counts_taker
 returns-clause-counts_taker c = search (rules, unchanged, takings)

@@ -1,10 +1,9 @@
 -- `successor_continuation::rest::settle` meets its contract.
 use Rattle.std.proofs.Common.{rules}
 use Rattle.state_progress.proofs.Laws.Progress.{extensions, to_ends}
-use Rattle.buffer.proofs.Laws.Buffer.{unchanged}
 use Rattle.successor_continuation.proofs.Laws.Rest.{settlings}
 use Rattle.successor_continuation.proofs.rest.settle.Goals as goal
 
 pub returns-then-wide-eq-NIL-clause-settles_behind :
     goal.returns-then-wide-eq-NIL-clause-settles_behind
-returns-then-wide-eq-NIL-clause-settles_behind c = search (rules, extensions, unchanged, to_ends, settlings)
+returns-then-wide-eq-NIL-clause-settles_behind c = search (rules, extensions, to_ends, settlings)

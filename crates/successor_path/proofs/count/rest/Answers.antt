@@ -10,7 +10,7 @@ pub returns-then-wide-eq-OUTPUT-clause-counts_rest :
 returns-then-wide-eq-OUTPUT-clause-counts_rest c = search (rules, unchanged, rests_counted, to_end_bound)
 
 pub returns-clause-written_from : goal.returns-clause-written_from
-returns-clause-written_from c = search (rules, unchanged, rests_counted, to_end_bound)
+returns-clause-written_from c = search (rules, rests_counted, to_end_bound)
 
 pub returns-clause-counts_rest : goal.returns-clause-counts_rest
 returns-clause-counts_rest c = search (rules, unchanged, rests_counted, to_end_bound)

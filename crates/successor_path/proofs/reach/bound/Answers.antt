@@ -1,12 +1,11 @@
 -- `successor_path::reach::bound` meets its contract.
 use Rattle.std.proofs.Common.{rules}
 use Rattle.state_head.proofs.Laws.HeadKinds.{let_ends}
-use Rattle.state_progress.proofs.Laws.Progress.{to_end}
 use Rattle.successor_path.proofs.Laws.ReachPart.{lets_passed}
 use Rattle.successor_path.proofs.reach.bound.Goals as goal
 
 pub returns-in-Done-clause-leads_past_any : goal.returns-in-Done-clause-leads_past_any
-returns-in-Done-clause-leads_past_any c = search (rules, let_ends, to_end, lets_passed)
+returns-in-Done-clause-leads_past_any c = search (rules, let_ends, lets_passed)
 
 pub returns-in-TooLarge-clause-leads_past_any : goal.returns-in-TooLarge-clause-leads_past_any
-returns-in-TooLarge-clause-leads_past_any c = search (rules, let_ends, to_end, lets_passed)
+returns-in-TooLarge-clause-leads_past_any c = search (rules, let_ends, lets_passed)

@@ -10,4 +10,4 @@ pub returns-then-names-gt-LAST_NAME-clause-new_leads_past :
 returns-then-names-gt-LAST_NAME-clause-new_leads_past c = search (rules, unchanged, news_passed, to_end)
 
 pub returns-clause-new_leads_past : goal.returns-clause-new_leads_past
-returns-clause-new_leads_past c = search (rules, unchanged, news_passed, to_end)
+returns-clause-new_leads_past c = search (rules, news_passed)

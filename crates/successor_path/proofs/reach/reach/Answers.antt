@@ -9,4 +9,4 @@ pub loop-m-preserved : goal.loop-m-preserved
 loop-m-preserved c = search (rules, unchanged, loops, goes_node, to_ends)
 
 pub returns-clause-reaches : goal.returns-clause-reaches
-returns-clause-reaches c = search (rules, unchanged, loops, goes_node, to_ends)
+returns-clause-reaches c = search (rules, loops, to_ends)

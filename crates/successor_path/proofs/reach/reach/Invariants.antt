@@ -1,11 +1,7 @@
 -- `successor_path::reach::reach` meets its contract. The loop goes one node down at a turn.
 use Rattle.buffer.specs.Buffer.{Within}
 use Rattle.successor_path.specs.Reach.{LeadsOn}
-use Rattle.std.proofs.Common.{◌≡◌, ◌+◌, ◌≤◌, ◌<◌, length, ℕ, ◌-◌, ◌*◌}
-use Rattle.buffer.specs.Buffer.{WrittenFrom}
-use Rattle.successor_path.specs.Reach.{Reaches, LeadsPast, LeadsPastIf, LeadsPastAny, NewLeadsPast, IfLeadsPast, Goes}
-use Rattle.state_head.specs.Head.{RoomAtNode}
-use Rattle.index_process.specs.Index.{ShortModel}
+use Rattle.std.proofs.Common.{◌≤◌, length}
 use Rattle.successor_path.proofs.reach.reach.Given as goal
 
 abbrev pub invariant-loop-m : goal.invariant-loop-m

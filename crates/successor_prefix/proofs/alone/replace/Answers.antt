@@ -5,7 +5,7 @@ use Rattle.successor_prefix.proofs.Laws.Alone.{replaced_within, replaced}
 use Rattle.successor_prefix.proofs.alone.replace.Goals as goal
 
 pub returns-clause-written_from_2 : goal.returns-clause-written_from_2
-returns-clause-written_from_2 c = search (rules, extensions, to_ends, replaced_within, replaced)
+returns-clause-written_from_2 c = search (rules, extensions, to_ends, replaced_within)
 
 pub returns-clause-replaces : goal.returns-clause-replaces
-returns-clause-replaces c = search (rules, extensions, to_ends, replaced_within, replaced)
+returns-clause-replaces c = search (rules, extensions, to_ends, replaced)

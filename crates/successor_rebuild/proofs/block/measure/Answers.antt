@@ -5,7 +5,7 @@ use borrow.Author.Tests.{leb-true}
 use Rattle.successor_rebuild.proofs.block.measure.Goals as goal
 
 pub loop-end-init : goal.loop-end-init
-loop-end-init c = search (rules, stills, endings, leb-true)
+loop-end-init c = search (rules, stills, endings)
 
 pub returns-then-to-next-clause-halts : goal.returns-then-to-next-clause-halts
 returns-then-to-next-clause-halts c = search (rules, stills, endings, leb-true)

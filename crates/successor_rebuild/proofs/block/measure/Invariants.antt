@@ -1,8 +1,6 @@
 -- `successor_rebuild::block::measure` meets its contract. The loop passes one record at a turn.
-use Rattle.std.proofs.Common.{◌≤◌, length, ◌≡◌, ℕ, ◌+◌, ◌-◌, ◌*◌, ◌<◌}
-use Rattle.buffer.specs.Buffer.{WrittenFrom}
-use Rattle.state_progress.specs.Progress.{Extends}
-use Rattle.successor_rebuild.specs.Block.{Still, Halts, HasRoom, Keeps, KeepsOn}
+use Rattle.std.proofs.Common.{◌≤◌, ◌-◌}
+use Rattle.successor_rebuild.specs.Block.{Still}
 use Rattle.successor_rebuild.proofs.block.measure.Given as goal
 
 abbrev pub invariant-loop-end : goal.invariant-loop-end

@@ -1,11 +1,6 @@
 -- `successor_rebuild::rebuild::rebuild` and `rest` meet their contracts: a block of threads that do not act, one that acts, and the others. The
 -- measure is the number of bytes of the records to come, and whether a block is.
-use Rattle.std.proofs.Common.{◌+◌, ◌≤◌, length, ◌≡◌, ℕ, ◌-◌, ◌*◌, ◌<◌}
-use Rattle.buffer.specs.Buffer.{WrittenFrom}
-use Rattle.state_progress.specs.Progress.{Extends}
-use Rattle.successor_rebuild.specs.Rebuild.{Renews, Rebuilds, Resumes}
-use Rattle.index_process.specs.Index.{ShortModel}
-use Rattle.state_layout.specs.Layout.{RecordFits}
+use Rattle.std.proofs.Common.{◌+◌, ◌-◌, ◌*◌}
 use Rattle.successor_rebuild.proofs.rebuild.+rebuild_rest.Given as goal
 
 abbrev pub decreases-rebuild : goal.decreases-rebuild

@@ -12,4 +12,3 @@ returns-in-OverLimit-clause-leads_for c = search (rules, to_ends, stepless_leadi
 
 pub returns-clause-leads_for : goal.returns-clause-leads_for
 returns-clause-leads_for c = search (rules, to_ends, stepless_leadings)
-

@@ -9,4 +9,3 @@ returns-in-At-clause-leads c = search (rules, to_ends, leadings)
 
 pub returns-in-OverLimit-clause-leads : goal.returns-in-OverLimit-clause-leads
 returns-in-OverLimit-clause-leads c = search (rules, to_ends, leadings)
-

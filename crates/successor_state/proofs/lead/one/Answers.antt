@@ -9,4 +9,3 @@ returns-then-acts-clause-leads_one c = search (rules, to_ends, ones)
 
 pub returns-clause-leads_one : goal.returns-clause-leads_one
 returns-clause-leads_one c = search (rules, to_ends, ones)
-

@@ -12,4 +12,3 @@ returns-in-Input-clause-leads c = search (rules, to_ends, labels)
 
 pub returns-in-Silent-clause-leads : goal.returns-in-Silent-clause-leads
 returns-in-Silent-clause-leads c = search (rules, to_ends, labels)
-

@@ -9,10 +9,10 @@ pub returns-then-arity-eq0-clause-written_from_2 :
 returns-then-arity-eq0-clause-written_from_2 c = search (rules, to_ends, both_behind, boths)
 
 pub returns-then-arity-eq0-clause-settles_both : goal.returns-then-arity-eq0-clause-settles_both
-returns-then-arity-eq0-clause-settles_both c = search (rules, to_ends, both_behind, boths)
+returns-then-arity-eq0-clause-settles_both c = search (rules, to_ends, boths)
 
 pub returns-clause-written_from_2 : goal.returns-clause-written_from_2
 returns-clause-written_from_2 c = search (rules, to_ends, both_behind, boths)
 
 pub returns-clause-settles_both : goal.returns-clause-settles_both
-returns-clause-settles_both c = search (rules, to_ends, both_behind, boths)
+returns-clause-settles_both c = search (rules, to_ends, boths)
