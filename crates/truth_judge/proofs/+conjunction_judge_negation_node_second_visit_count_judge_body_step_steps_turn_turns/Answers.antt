@@ -1,7 +1,7 @@
 -- The functions of judging meet their contracts: a visit, the formula by its kind, and the turns of a step formula.
 use Rattle.std.proofs.Common.{rules}
 use Rattle.truth_judge.proofs.Laws.Visit.{judgings, visitings, kinds, sides}
-use Rattle.truth_judge.proofs.Laws.Body.{bodies, countings}
+use Rattle.truth_judge.proofs.Laws.Body.{bodies}
 use Rattle.truth_judge.proofs.Laws.Turn.{turn_none, turn_by}
 use Rattle.truth_judge.proofs.Laws.Loop.{looping_falls, loopings, steps_memo}
 use Rattle.truth_judge.proofs.Laws.Step.{steppings}

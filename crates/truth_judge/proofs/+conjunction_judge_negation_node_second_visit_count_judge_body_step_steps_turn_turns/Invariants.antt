@@ -1,11 +1,7 @@
 -- The functions of judging fall in formula nodes left on the path, nine calls to a node; the steps of a formula are a loop, in which what is
 -- left of the budget falls.
 use Rattle.truth_judge.proofs.Laws.Loop.{Looping}
-use Rattle.std.proofs.Common.{◌+◌, ◌≤◌, ◌<◌, length, ◌≡◌, ℕ, ◌-◌, ◌*◌}
-use Rattle.truth_body.specs.Judged.{Less}
-use Rattle.truth_judge.specs.Visit.{Judges, Visits, Equates, Negates, Conjoins, Seconds}
-use Rattle.buffer.specs.Buffer.{SameLength}
-use Rattle.truth_body.specs.Reached.{VisitRoom}
+use Rattle.std.proofs.Common.{◌+◌, ◌*◌}
 use Rattle.truth_judge.proofs.+conjunction_judge_negation_node_second_visit_count_judge_body_step_steps_turn_turns.Given as goal
 
 abbrev pub decreases-judge::conjunction : goal.decreases-judge::conjunction

@@ -21,4 +21,3 @@ returns-clause-less c = search (rules, charged, chargings)
 
 pub returns-clause-charges : goal.returns-clause-charges
 returns-clause-charges c = search (rules, charged, chargings)
-

@@ -8,4 +8,3 @@ returns-in-At c = search (rules, memoisings)
 
 pub returns-in-OverLimit : goal.returns-in-OverLimit
 returns-in-OverLimit c = search (rules, memoisings)
-

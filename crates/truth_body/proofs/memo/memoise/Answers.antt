@@ -11,4 +11,3 @@ returns-in-Alike c = search (rules, memoisings)
 
 pub returns-in-Each : goal.returns-in-Each
 returns-in-Each c = search (rules, memoisings)
-

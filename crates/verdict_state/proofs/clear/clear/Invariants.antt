@@ -1,6 +1,6 @@
 -- `verdict_state::clear::clear` meets its contract. The loop has cleared as many bytes as it has gone round.
 use lib.ListN.{drop}
-use Rattle.std.proofs.Common.{◌++◌, length, ◌-◌, ◌≡◌, replicate, ℕ, ◌+◌, ◌*◌, ◌<◌, ◌≤◌}
+use Rattle.std.proofs.Common.{◌++◌, length, ◌-◌, ◌≡◌, replicate, ◌≤◌}
 use Rattle.verdict_state.proofs.clear.clear.Given as goal
 
 abbrev pub invariant-loop-i : goal.invariant-loop-i

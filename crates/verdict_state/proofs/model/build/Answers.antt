@@ -8,4 +8,3 @@ returns-clause-less c = search (rules, judges_model)
 
 pub returns-clause-judges_model : goal.returns-clause-judges_model
 returns-clause-judges_model c = search (rules, judges_model)
-

@@ -8,4 +8,3 @@ returns-clause-less c = search (rules, judges_indexed)
 
 pub returns-clause-judges_indexed : goal.returns-clause-judges_indexed
 returns-clause-judges_indexed c = search (rules, judges_indexed)
-

@@ -13,4 +13,3 @@ returns-in-Spent-judge-clause-judges_both_indexed c = search (rules, budgets, ju
 
 pub returns-in-Spent-clause-judges_both_indexed : goal.returns-in-Spent-clause-judges_both_indexed
 returns-in-Spent-clause-judges_both_indexed c = search (rules, budgets, judgings)
-

@@ -5,4 +5,3 @@ use Rattle.verdict_state.proofs.models.build.Goals as goal
 
 pub returns-clause-judges_both : goal.returns-clause-judges_both
 returns-clause-judges_both c = search (rules, judges_both)
-

@@ -14,4 +14,3 @@ returns-then-second c = search (rules, ranks)
 
 pub returns : goal.returns
 returns c = search (rules, ranks)
-
