@@ -12,4 +12,3 @@ returns-in-Input-clause-leaves c = search (rules, to_ends, leavings)
 
 pub returns-in-Silent-clause-leaves : goal.returns-in-Silent-clause-leaves
 returns-in-Silent-clause-leaves c = search (rules, to_ends, leavings)
-

@@ -10,4 +10,3 @@ returns-in-Found-clause-arrives c =
 
 pub returns-in-None-clause-arrives : goal.returns-in-None-clause-arrives
 returns-in-None-clause-arrives c = search (rules, arrives_none)
-

@@ -10,4 +10,3 @@ returns-then-message-size-clause-leaves_by_sending c = search (rules, to_ends, l
 
 pub returns-clause-leaves_by_sending : goal.returns-clause-leaves_by_sending
 returns-clause-leaves_by_sending c = search (rules, to_ends, leavings)
-
