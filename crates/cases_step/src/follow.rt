@@ -139,7 +139,8 @@ fn follow_label(
     )
 }
 
-// Writes the label at a position and how many steps it has at a state, and answers that.
+// Writes the label at a position and how many steps it has at a state, and answers that. Where writing fails, the slices are as counting
+// left them.
 fn told(
     rt: &impl Print,
     s: &[u8],

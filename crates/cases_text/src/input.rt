@@ -1,5 +1,5 @@
 // The table that a test program is given.
-ghost use Rattle.std.specs.Prelude.{◌≤◌, length, IfOk};
+ghost use Rattle.std.specs.Prelude.{◌≡◌, ◌≤◌, length, IfOk, OnErr};
 
 use std::io;
 use std::io::Read;
@@ -7,9 +7,11 @@ use std::io::Read;
 // The most bytes that a table may have.
 pub const TABLE: usize = 65536;
 
-// Reads until the slice is full or the input ends, and answers how many bytes it put at the start of it.
+// Reads until the slice is full or the input ends, and answers how many bytes it put at the start of it. Where reading fails, what was read
+// until then stands there.
 pub fn read_full(input: &mut impl Read, out: &mut [u8]) -> io::Result<usize>
-    ensures { IfOk result (λ n. n ≤ length out.new) }
+    ensures ok { IfOk result (λ n. n ≤ length out.new) }
+    ensures err { OnErr result (length out.new ≡ length out.old) }
 {
     let mut done = 0;
     while done < out.len() {

@@ -50,7 +50,8 @@ fn each_line(rt: &impl Print, table: &[u8]) -> io::Result<()> {
     Ok(())
 }
 
-// Writes the line and, if it is a case, the answer; says how long the slices are after it.
+// Writes the line and, if it is a case, the answer; says how long the slices are after it. Where writing fails, the slices hold what the line
+// gave, or what they held.
 fn take_line(
     rt: &impl Print,
     line: &[u8],
@@ -68,7 +69,7 @@ fn take_line(
     Ok(after)
 }
 
-// The first letter says what the line gives.
+// The first letter says what the line gives. Where writing fails, the slices hold what they held.
 fn take(
     rt: &impl Print,
     line: &[u8],

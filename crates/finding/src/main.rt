@@ -2,7 +2,7 @@
 // four numbers of the verdict in decimal, one space between, and then a newline ("Judged by hand").
 #![tactic(auto)]
 
-ghost use Rattle.std.specs.Prelude.{◌≤◌, length, IfOk};
+ghost use Rattle.std.specs.Prelude.{◌≡◌, ◌≤◌, length, IfOk, OnErr};
 
 use std::fs::File;
 use std::io;
@@ -18,9 +18,11 @@ const BUDGET: u32 = 1000000;
 // The bytes that a verdict works in.
 const WORK: usize = 65536;
 
-// Puts the first bytes of a file into a slice and answers how many there are: none, if there is no such file.
+// Puts the first bytes of a file into a slice and answers how many there are: none, if there is no such file. Where reading fails, what was
+// read until then stands at the start of the slice.
 fn load(rt: &impl Files, path: &str, slice: &mut [u8]) -> io::Result<usize>
-    ensures { IfOk result (λ n. n ≤ length slice.old) }
+    ensures ok { IfOk result (λ n. n ≤ length slice.old) }
+    ensures err { OnErr result (length slice.new ≡ length slice.old) }
 {
     match File::open(rt, path) {
         Ok(mut file) => read_full(&mut file, slice),
@@ -28,9 +30,11 @@ fn load(rt: &impl Files, path: &str, slice: &mut [u8]) -> io::Result<usize>
     }
 }
 
-// Reads until the slice is full or the file ends, and answers how many bytes it put at the start of the slice.
+// Reads until the slice is full or the file ends, and answers how many bytes it put at the start of the slice. Where reading fails, what was
+// read until then stands there.
 fn read_full(file: &mut impl Read, slice: &mut [u8]) -> io::Result<usize>
-    ensures { IfOk result (λ n. n ≤ length slice.old) }
+    ensures ok { IfOk result (λ n. n ≤ length slice.old) }
+    ensures err { OnErr result (length slice.new ≡ length slice.old) }
 {
     let mut done = 0;
     while done < slice.len() {
