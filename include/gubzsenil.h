@@ -62,8 +62,8 @@ typedef struct gubzsenil_answer {
  * Threads. Nothing is kept between calls, and there is no shared state: calls may run at the same time, each with work bytes of
  * its own.
  *
- * Stack. Some 100 KB for a finding such as an ePassport's, and 280 KB the most that was measured, for formulas and models nested
- * as deep as they may be. That is measured and not proved: give a thread that calls it 1 MB.
+ * Stack. Some 100 KB for a finding such as an ePassport's, and 280 KB the most that was measured, with an older kit, for formulas
+ * and models nested as deep as they may be. That is measured and not proved: give a thread that calls it 1 MB.
  */
 gubzsenil_answer gubzsenil_verdict(const uint8_t *first, size_t first_bytes,
                                    const uint8_t *second, size_t second_bytes,
