@@ -1,4 +1,3 @@
 -- The laws by which the functions meet their contracts.
 pub mod Word
-pub mod Copy
 pub mod Buffer

@@ -2,21 +2,13 @@
 ghost use Rattle.std.specs.Prelude.{◌≡◌, ◌+◌, ◌<◌, ◌%◌, ◌/◌, length, set};
 ghost use Rattle.buffer.specs.Word.{number_at};
 
-// A byte as a wider number.
-pub fn wide(b: u8) -> usize
-    ensures value { result ≡ b }
-    ensures upper_bound { result < 256 }
-{
-    b as usize
-}
-
 // The number that stands at a position.
 pub fn number(m: &[u8], at: usize) -> usize
     requires { at + 1 < length m.now }
     ensures value { result ≡ number_at m.now at }
     ensures upper_bound { result < 65536 }
 {
-    wide(m[at]) + 256 * wide(m[at + 1])
+    usize::from(m[at]) + 256 * usize::from(m[at + 1])
 }
 
 // Writes a number at a position.

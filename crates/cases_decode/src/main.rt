@@ -7,53 +7,37 @@
 // have 65,536 bytes.
 #![tactic(auto)]
 
-use cases_text::{input, spell, text};
-use decode_number::answer;
-use decode_number::answer::Answer;
+use cases_text::{input, spell};
+use decode_number::answer::Refused;
 use std::io;
 
+// The most bytes of a slice that a line spells: more than the 4,096 that one may have.
+const SPACE: usize = 4300;
+
 fn main(rt: HostRuntime) -> io::Result<()> {
-    let mut table = [0u8; input::TABLE];
-    let n = input::read_full(&mut rt.stdin(), &mut table)?;
-    each_line(&rt, &table[..n])
-}
-
-fn each_line(rt: &impl Print, table: &[u8]) -> io::Result<()> {
-    let mut start = 0;
-    while start < table.len() {
-        let end = text::find(table, start, b'\n');
-        answer_line(rt, &table[start..end])?;
-        start = end + 1;
-    }
-    Ok(())
-}
-
-// Writes the line and, if it has a slice, the answer.
-fn answer_line(rt: &impl Print, line: &[u8]) -> io::Result<()> {
-    rt.write_all(line)?;
-    if 0 < line.len() {
-        answer_case(rt, line, line[0])?;
-    }
-    rt.write_all(b"\n")
+    input::each_line(rt.stdin(), |line| {
+        rt.write_all(line)?;
+        answer_line(&rt, line)?;
+        rt.print("\n")
+    })
 }
 
 // The first letter says which reader is asked, if any.
-fn answer_case(rt: &impl Print, line: &[u8], sort: u8) -> io::Result<()> {
-    let mut out = [0u8; 4300];
-    let n = spell::spell(line, &mut out);
-    let s = &out[0..n];
-    match sort {
-        b'm' => print(rt, decode_slice::read_model(s)),
-        b'f' => print(rt, decode_slice::read_formula(s)),
+fn answer_line(rt: &impl Print, line: &[u8]) -> io::Result<()> {
+    let mut bytes = [0u8; SPACE];
+    let n = spell::spell(line, &mut bytes);
+    match line.first() {
+        Some(b'm') => print(rt, decode_slice::read_model(&bytes[..n])),
+        Some(b'f') => print(rt, decode_slice::read_formula(&bytes[..n])),
         _ => Ok(()),
     }
 }
 
-fn print(rt: &impl Print, a: Answer) -> io::Result<()> {
-    match a {
-        Answer::Ends(end) => print!(rt; " : ends at {end}"),
-        Answer::Refused(why, place) => {
-            let number = answer::code(why);
+fn print(rt: &impl Print, read: Result<usize, Refused>) -> io::Result<()> {
+    match read {
+        Ok(end) => print!(rt; " : ends at {end}"),
+        Err(Refused { why, place }) => {
+            let number = u32::from(why);
             print!(rt; " : refused {number} at {place}")
         }
     }

@@ -1,10 +1,10 @@
 // The bound messages of a case, and what is asked of the last of them.
+ghost use Rattle.std.specs.Prelude.{◌≤◌};
+
 use crate::print;
-use buffer::word;
-use cases_text::{hex, text};
 use message_binding::bind;
 use message_term::work::Worked;
-use std::io;
+use std::{fmt, io};
 
 // The bytes for bound messages, and the last position at which one more has room: `bind::term` asks for `bind::REACH` bytes.
 pub(crate) const SPACE: usize = 16384;
@@ -12,7 +12,7 @@ pub(crate) const SPACE: usize = 16384;
 const LAST_START: usize = SPACE - bind::REACH;
 
 // The bound messages: where the last but one begins, where the last begins and ends, and the next private name.
-#[derive(Clone, Copy)]
+#[derive(Clone, Copy, Default)]
 pub(crate) struct Ends {
     before: usize,
     last: usize,
@@ -20,53 +20,67 @@ pub(crate) struct Ends {
     names: usize,
 }
 
-// With the message of one step more; or why there is none has been written.
+// Why a step is not taken.
 #[derive(Clone, Copy)]
-pub(crate) enum Taken {
-    Bound(Ends),
-    Stopped,
+pub(crate) enum Refused {
+    NoRoom,
+    NoName,
+    BytesLeftOver,
+    TooLarge,
+}
+
+impl fmt::Display for Refused {
+    fn fmt<W: fmt::Write>(&self, f: &mut fmt::Formatter<W>) -> fmt::Result {
+        f.write_str(match self {
+            Refused::NoRoom => "no room",
+            Refused::NoName => "no name",
+            Refused::BytesLeftOver => "bytes left over",
+            Refused::TooLarge => "too large",
+        })
+    }
 }
 
 impl Ends {
-    pub(crate) fn none() -> Ends {
-        Ends {
-            before: 0,
-            last: 0,
-            end: 0,
-            names: 0,
+    // With the message of one step more: a private name, or a term.
+    pub(crate) fn bind(
+        self,
+        bytes: &[u8],
+        is_name: bool,
+        m: &mut [u8; SPACE],
+    ) -> Result<Ends, Refused> {
+        if LAST_START < self.end {
+            return Err(Refused::NoRoom);
+        }
+        if is_name {
+            self.bind_name(bytes, m)
+        } else {
+            self.bind_term(bytes, m)
         }
     }
 
-    // Takes one step: a private name, or a term.
-    pub(crate) fn bind(
-        self,
-        rt: &impl Print,
-        step: &[u8],
-        number: usize,
-        m: &mut [u8; SPACE],
-    ) -> io::Result<Taken> {
-        let mut bytes = [0u8; 512];
-        let n = hex::spell(step, &mut bytes);
-        let end = self.end;
-        if LAST_START < end {
-            return stop(rt, " : no room in step ", number);
+    // The private name that is written, if any, in one byte or in two, the lower one first; else the next.
+    fn bind_name(self, bytes: &[u8], m: &mut [u8; SPACE]) -> Result<Ends, Refused>
+        requires { self.end ≤ 12286 }
+    {
+        let name = match bytes {
+            [] => self.names,
+            [low] => usize::from(*low),
+            [low, high, ..] => usize::from(u16::from_le_bytes([*low, *high])),
+        };
+        if bind::LAST_NAME < name {
+            return Err(Refused::NoName);
         }
-        if text::find(step, 0, b'n') < step.len() {
-            let name = name_of(&bytes[0..n], self.names);
-            if bind::LAST_NAME < name {
-                return stop(rt, " : no name in step ", number);
-            }
-            return Ok(Taken::Bound(self.and(bind::name(m, end, name), name + 1)));
+        Ok(self.and(bind::name(m, self.end, name), name + 1))
+    }
+
+    fn bind_term(self, bytes: &[u8], m: &mut [u8; SPACE]) -> Result<Ends, Refused>
+        requires { self.end ≤ 12286 }
+    {
+        let Worked { next, end } = bind::term(bytes, 0, m, 0, self.end).ok_or(Refused::TooLarge)?;
+        if next != bytes.len() {
+            return Err(Refused::BytesLeftOver);
         }
-        match bind::term(&bytes[0..n], 0, m, 0, end) {
-            Worked::Done(next, last) => {
-                if next != n {
-                    return stop(rt, " : bytes left over in step ", number);
-                }
-                Ok(Taken::Bound(self.and(last, self.names)))
-            }
-            Worked::TooLarge => stop(rt, " : too large in step ", number),
-        }
+        Ok(self.and(end, self.names))
     }
 
     // With one message more, which ends there, and the next private name.
@@ -93,32 +107,9 @@ impl Ends {
     }
 }
 
-// Writes why a step is not taken.
-fn stop(rt: &impl Print, why: &str, number: usize) -> io::Result<Taken> {
-    print::number(rt, why, number)?;
-    Ok(Taken::Stopped)
-}
-
-// The number of a private name: the one that is written, if any, in one byte or in two, the lower one first; else the next.
-fn name_of(bytes: &[u8], next: usize) -> usize {
-    if 1 < bytes.len() {
-        return word::wide(bytes[0]) + 256 * word::wide(bytes[1]);
-    }
-    if 0 < bytes.len() {
-        return word::wide(bytes[0]);
-    }
-    next
-}
-
 // The message between two positions, behind the number of its nodes.
 fn message(m: &[u8], from: usize, end: usize) -> &[u8] {
-    if end <= m.len() {
-        if 2 <= end {
-            if from <= end - 2 {
-                let start = from + 2;
-                return &m[start..end];
-            }
-        }
-    }
-    &m[0..0]
+    m.get(from..end)
+        .and_then(|entry| entry.get(2..))
+        .unwrap_or_default()
 }

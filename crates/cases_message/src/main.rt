@@ -13,50 +13,30 @@
 mod ends;
 mod print;
 
-use cases_text::{input, text};
-use ends::{Ends, SPACE, Taken};
+use cases_text::{hex, input};
+use ends::{Ends, SPACE};
 use std::io;
 
+// The most bytes of a step.
+const STEP: usize = 512;
+
 fn main(rt: HostRuntime) -> io::Result<()> {
-    let mut table = [0u8; input::TABLE];
-    let n = input::read_full(&mut rt.stdin(), &mut table)?;
-    each_line(&rt, &table[..n])
-}
-
-fn each_line(rt: &impl Print, table: &[u8]) -> io::Result<()> {
     let mut m = [0u8; SPACE];
-    let mut given = Ends::none();
-    let mut start = 0;
-    while start < table.len() {
-        let end = text::find(table, start, b'\n');
-        given = answer_line(rt, &table[start..end], given, &mut m)?;
-        start = end + 1;
-    }
-    Ok(())
+    let mut given = Ends::default();
+    input::each_line(rt.stdin(), |line| {
+        rt.write_all(line)?;
+        given = answer_line(&rt, line, given, &mut m)?;
+        rt.print("\n")
+    })
 }
 
-// Writes the line and, if it is a case, the answer; says what is given after it.
+// Writes the answer, if the line is a case; says what is given after it.
 fn answer_line(rt: &impl Print, line: &[u8], given: Ends, m: &mut [u8; SPACE]) -> io::Result<Ends> {
-    rt.write_all(line)?;
-    let after = answer(rt, line, given, m)?;
-    rt.write_all(b"\n")?;
-    Ok(after)
-}
-
-fn answer(rt: &impl Print, line: &[u8], given: Ends, m: &mut [u8; SPACE]) -> io::Result<Ends> {
-    if line.len() == 0 {
-        return Ok(given);
-    }
-    let word = line[0];
-    match word {
-        b'g' => match bind_all(rt, line, Ends::none(), m)? {
-            Taken::Bound(ends) => Ok(ends),
-            Taken::Stopped => Ok(Ends::none()),
-        },
-        b'w' | b's' | b'e' => {
-            match bind_all(rt, line, given, m)? {
-                Taken::Bound(ends) => ends.answer(rt, m, word)?,
-                Taken::Stopped => {}
+    match line.first() {
+        Some(b'g') => Ok(bind_all(rt, line, Ends::default(), m)?.unwrap_or_default()),
+        Some(word @ (b'w' | b's' | b'e')) => {
+            if let Some(ends) = bind_all(rt, line, given, m)? {
+                ends.answer(rt, m, *word)?;
             }
             Ok(given)
         }
@@ -64,23 +44,25 @@ fn answer(rt: &impl Print, line: &[u8], given: Ends, m: &mut [u8; SPACE]) -> io:
     }
 }
 
-// Takes the steps of a line one after the other.
-fn bind_all(rt: &impl Print, line: &[u8], given: Ends, m: &mut [u8; SPACE]) -> io::Result<Taken> {
+// Takes the steps of a line one after the other. Where one is refused, there are no ends, and why has been written.
+fn bind_all(
+    rt: &impl Print,
+    line: &[u8],
+    given: Ends,
+    m: &mut [u8; SPACE],
+) -> io::Result<Option<Ends>> {
+    let word = line.iter().position(|c| *c == b' ').unwrap_or(line.len());
     let mut ends = given;
-    let mut number = 0;
-    let mut at = text::find(line, 0, b' ');
-    while at < line.len() {
-        let bar = text::find(line, at, b'|');
-        match ends.bind(rt, &line[at..bar], number, m)? {
-            Taken::Bound(next) => {
-                ends = next;
-            }
-            Taken::Stopped => {
-                return Ok(Taken::Stopped);
+    for (number, step) in line[word..].split_inclusive(|c| *c == b'|').enumerate() {
+        let mut bytes = [0u8; STEP];
+        let n = hex::spell(step, &mut bytes);
+        match ends.bind(&bytes[..n], step.contains(&b'n'), m) {
+            Ok(next) => ends = next,
+            Err(why) => {
+                print!(rt; " : {why} in step {number}")?;
+                return Ok(None);
             }
         }
-        number += 1;
-        at = bar + 1;
     }
-    Ok(Taken::Bound(ends))
+    Ok(Some(ends))
 }

@@ -1,7 +1,7 @@
 // The labels of a case: what they are, how many bytes they take, where a level of them ends, and the messages of their recipes.
 ghost use Rattle.std.specs.Prelude.{◌+◌, ◌≤◌, ◌<◌, length};
 
-use crate::part;
+use crate::space::Space;
 use buffer::slice;
 use message_term::work;
 use message_term::work::Worked;
@@ -34,12 +34,11 @@ pub(crate) fn level_end(labels: &[u8], at: usize) -> usize
     ensures { result ≤ length labels.now }
 {
     let mut i = at;
-    while i < labels.len() {
-        let first = labels[i];
-        if first == 0 {
+    while let Some(first) = labels.get(i) {
+        if *first == 0 {
             return i;
         }
-        i += width(first);
+        i += width(*first);
     }
     labels.len()
 }
@@ -51,7 +50,7 @@ fn aliases(state: State, out: &[u8], m: &mut [u8]) -> usize
     ensures result_in_bounds { result + 4096 ≤ length m.old }
     ensures m_in_bounds { length m.old ≤ length m.new }
 {
-    let x = part::part(out, state.aliases, state.start);
+    let x = out.get(state.aliases..state.start).unwrap_or_default();
     if m.len() - work::REACH < x.len() {
         return 0;
     }
@@ -61,30 +60,14 @@ fn aliases(state: State, out: &[u8], m: &mut [u8]) -> usize
 
 // Works the recipe at a position under the aliases of a state, writes its run to the front of a slice, and answers how many bytes it
 // takes.
-fn recipe(
-    labels: &[u8],
-    at: usize,
-    state: State,
-    out: &[u8],
-    m: &mut [u8],
-    message: &mut [u8],
-) -> usize
+fn recipe(labels: &[u8], at: usize, state: State, space: &mut Space, message: &mut [u8]) -> usize
     ensures { result ≤ length message.old }
 {
-    if m.len() < work::REACH {
-        return 0;
-    }
-    let base = aliases(state, out, m);
-    match work::term(labels, at, m, 0, base) {
-        Worked::Done(_, end) => take(part::part(m, base, end), message),
-        Worked::TooLarge => 0,
-    }
-}
-
-// Copies a run to the front of a slice, and answers how many bytes it takes.
-fn take(x: &[u8], message: &mut [u8]) -> usize
-    ensures { result ≤ length message.old }
-{
+    let base = aliases(state, &space.out, &mut space.m);
+    let x = match work::term(labels, at, &mut space.m, 0, base) {
+        Some(Worked { end, .. }) => space.m.get(base..end).unwrap_or_default(),
+        None => &[],
+    };
     if message.len() < x.len() {
         return 0;
     }
@@ -97,8 +80,7 @@ pub(crate) fn channel(
     labels: &[u8],
     at: usize,
     state: State,
-    out: &[u8],
-    m: &mut [u8],
+    space: &mut Space,
     message: &mut [u8],
 ) -> usize
     requires { at < length labels.now }
@@ -106,7 +88,7 @@ pub(crate) fn channel(
 {
     match kind(labels[at]) {
         Label::Silent => 0,
-        _ => recipe(labels, at + 1, state, out, m, message),
+        _ => recipe(labels, at + 1, state, space, message),
     }
 }
 
@@ -115,15 +97,14 @@ pub(crate) fn taken(
     labels: &[u8],
     at: usize,
     state: State,
-    out: &[u8],
-    m: &mut [u8],
+    space: &mut Space,
     message: &mut [u8],
 ) -> usize
     requires { at < length labels.now }
     ensures { result ≤ length message.old }
 {
     match kind(labels[at]) {
-        Label::Input => recipe(labels, at + 3, state, out, m, message),
+        Label::Input => recipe(labels, at + 3, state, space, message),
         _ => 0,
     }
 }

@@ -13,80 +13,39 @@
 mod ask;
 mod follow;
 mod label;
-mod part;
 mod print;
+mod space;
 
-use cases_text::{hex, input, text};
-use index_process::index;
-use state_head::head;
+use cases_text::{hex, input};
+use follow::Case;
+use space::Space;
 use std::io;
 
-// The bytes that states and what is kept beside them are put into.
-const SPACE: usize = 65536;
+// The most bytes of a model, and those of its labels.
+const MODEL: usize = 512;
+
+const LABELS: usize = 64;
 
 fn main(rt: HostRuntime) -> io::Result<()> {
-    let mut table = [0u8; input::TABLE];
-    let n = input::read_full(&mut rt.stdin(), &mut table)?;
-    each_line(&rt, &table[..n])
+    let mut space = Space::new();
+    input::each_line(rt.stdin(), |line| answer_line(&rt, line, &mut space))
 }
 
-fn each_line(rt: &impl Print, table: &[u8]) -> io::Result<()> {
-    let mut m = [0u8; head::BOUND];
-    let mut out = [0u8; SPACE];
-    let mut start = 0;
-    while start < table.len() {
-        let end = text::find(table, start, b'\n');
-        answer_line(rt, &table[start..end], &mut m, &mut out)?;
-        start = end + 1;
-    }
-    Ok(())
-}
-
-// Follows the case that the line is, if it is one.
-fn answer_line(
-    rt: &impl Print,
-    line: &[u8],
-    m: &mut [u8; head::BOUND],
-    out: &mut [u8; SPACE],
-) -> io::Result<()> {
-    if line.len() == 0 {
+// Follows the case that the line is, if it is one: the labels that its last part spells, from the start state of the model that the part
+// before it spells.
+fn answer_line(rt: &impl Print, line: &[u8], space: &mut Space) -> io::Result<()> {
+    if line.starts_with(b"#") {
         return Ok(());
     }
-    if line[0] == b'#' {
+    let mut parts = line.splitn(3, |c| *c == b':');
+    let (Some(name), Some(model), Some(labels)) = (parts.next(), parts.next(), parts.next()) else {
         return Ok(());
-    }
-    let name = text::find(line, 0, b':');
-    if line.len() <= name {
-        return Ok(());
-    }
-    let model = text::find(line, name + 1, b':');
-    if line.len() <= model {
-        return Ok(());
-    }
-    rt.write_all(&line[0..name])?;
+    };
+    rt.write_all(name)?;
     rt.print(": ")?;
-    answer(rt, &line[name + 1..model], &line[model + 1..], m, out)
-}
-
-// Follows the labels that one text spells from the start state of the model that another one spells.
-fn answer(
-    rt: &impl Print,
-    model: &[u8],
-    told: &[u8],
-    m: &mut [u8; head::BOUND],
-    out: &mut [u8; SPACE],
-) -> io::Result<()> {
-    let mut s = [0u8; 512];
-    let mut labels = [0u8; 64];
+    let mut s = [0u8; MODEL];
     let n = hex::spell(model, &mut s);
-    let k = hex::spell(told, &mut labels);
-    let mut indexed = [0u8; index::LENGTH];
-    follow::start(
-        rt,
-        &s[0..n],
-        &mut indexed[0..index::LENGTH],
-        &labels[0..k],
-        m,
-        out,
-    )
+    let mut told = [0u8; LABELS];
+    let k = hex::spell(labels, &mut told);
+    Case::new(&s[..n], &told[..k]).start(rt, space)
 }

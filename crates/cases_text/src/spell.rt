@@ -1,118 +1,71 @@
 // The bytes that a line spells: two digits to a byte, and `[07 00]12 ` for twelve copies.
 ghost use Rattle.std.specs.Prelude.{◌≤◌, length};
 
-use crate::text;
-use crate::text::NO_DIGIT;
+use crate::hex;
+use crate::hex::Half;
 
 // Puts the slice that the text stands for at the start of out, and answers its length. Bytes that do not fit are dropped.
 pub fn spell(text: &[u8], out: &mut [u8]) -> usize
     ensures { result ≤ length out.old }
 {
-    let mut made = Made {
-        len: 0,
-        start: 0,
-        high: NO_DIGIT,
-        counting: false,
-        times: 0,
-    };
-    let mut i = 0;
-    while i < text.len() {
-        made = made.step(text[i], out);
-        i += 1;
+    let mut made = Made::default();
+    for c in text {
+        made.take(*c, out);
     }
-    let whole = made.step(b' ', out);
-    whole.len
+    made.take(b' ', out);
+    made.len
 }
 
-// What has been made of a text: so many bytes, where the last bracket opened, the first digit of a byte (or none),
-// whether a number of copies is being read, and that number so far.
-#[derive(Clone, Copy)]
+// What has been made of a text: so many bytes, where the last bracket opened, the first digit of a further byte, if it has one, and the
+// number of copies so far, if one is being read.
+#[derive(Clone, Copy, Default)]
 struct Made {
     len: usize,
     start: usize,
-    high: usize,
-    counting: bool,
-    times: usize,
+    half: Half,
+    times: Option<u16>,
 }
 
 impl Made {
     // With one character more.
-    fn step(mut self, c: u8, out: &mut [u8]) -> Made
-        requires { self.len ≤ length out.old }
-        ensures { result.len ≤ length out.old }
+    fn take(&mut self, c: u8, out: &mut [u8])
+        requires { self.old.len ≤ length out.old }
+        ensures { self.new.len ≤ length out.old }
     {
-        let d = text::digit(c);
-        if self.counting {
-            return self.copies(d, out);
-        }
-        match c {
-            b'[' => {
-                self.start = self.len;
-                self
+        match (self.times, c) {
+            (Some(times), b'0'..=b'9') => {
+                self.times = Some(times % 1000 * 10 + u16::from(c - b'0'));
             }
-            b']' => {
-                self.counting = true;
-                self.times = 0;
-                self
+            (Some(times), _) => {
+                self.times = None;
+                self.len = repeat(self.start, self.len, usize::from(times), out);
             }
-            _ => self.byte(d, out),
+            (None, b'[') => self.start = self.len,
+            (None, b']') => self.times = Some(0),
+            (None, _) => {
+                if let Some(byte) = self.half.take(c) {
+                    self.len = hex::put(byte, self.len, out);
+                }
+            }
         }
-    }
-
-    // With one digit more of a byte, the first or the second.
-    fn byte(mut self, d: usize, out: &mut [u8]) -> Made
-        requires { self.len ≤ length out.old }
-        ensures { result.len ≤ length out.old }
-    {
-        let high = self.high;
-        let len = self.len;
-        if NO_DIGIT <= d {
-            return self;
-        }
-        if NO_DIGIT <= high {
-            self.high = d;
-            return self;
-        }
-        self.high = NO_DIGIT;
-        if out.len() <= len {
-            return self;
-        }
-        out[len] = (high * 16 + d) as u8;
-        self.len = len + 1;
-        self
-    }
-
-    // With one digit more of the number of copies; where it ends, with the copies.
-    fn copies(mut self, d: usize, out: &mut [u8]) -> Made
-        requires { self.len ≤ length out.old }
-        ensures { result.len ≤ length out.old }
-    {
-        if d < 10 {
-            self.times = self.times % 1000 * 10 + d;
-            return self;
-        }
-        self.counting = false;
-        self.len = repeat(out, self.start, self.len, self.times);
-        self
     }
 }
 
-// Puts copies of the bytes start to len behind them, until there are so many in all, and answers where the last one ends.
-fn repeat(out: &mut [u8], start: usize, len: usize, times: usize) -> usize
+// Puts copies of the bytes start to len behind them, as many as fit, until there are so many in all, and answers where the last one ends.
+fn repeat(start: usize, len: usize, times: usize, out: &mut [u8]) -> usize
     requires { len ≤ length out.old }
     ensures { result ≤ length out.old }
 {
     if len <= start {
         return len;
     }
-    if times == 0 {
-        return start;
-    }
     let width = len - start;
-    let mut i = len;
-    while i < out.len() && (i - start) / width < times {
+    let end = width
+        .saturating_mul(times)
+        .saturating_add(start)
+        .min(out.len());
+    for i in len..end {
         out[i] = out[i - width];
-        i += 1;
     }
-    i
+    end
 }

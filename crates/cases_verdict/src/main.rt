@@ -12,106 +12,18 @@
 // over. A slice may have 4,300 bytes, the table 65,536.
 #![tactic(auto)]
 
-mod lengths;
-mod print;
+mod given;
 mod run;
 
-ghost use Rattle.std.specs.Prelude.{IfOk};
-ghost use Rattle.cases_verdict.specs.Lengths.{LengthsFit};
-
-use cases_text::{input, spell, text};
-use lengths::{Lengths, SPACE};
+use cases_text::input;
+use given::Given;
 use std::io;
 
 fn main(rt: HostRuntime) -> io::Result<()> {
-    let mut table = [0u8; input::TABLE];
-    let n = input::read_full(&mut rt.stdin(), &mut table)?;
-    each_line(&rt, &table[..n])
-}
-
-fn each_line(rt: &impl Print, table: &[u8]) -> io::Result<()> {
-    let mut first = [0u8; SPACE];
-    let mut second = [0u8; SPACE];
-    let mut formula = [0u8; SPACE];
-    let mut lengths = Lengths::none();
-    let mut start = 0;
-    while start < table.len() {
-        let end = text::find(table, start, b'\n');
-        lengths = take_line(
-            rt,
-            &table[start..end],
-            lengths,
-            &mut first,
-            &mut second,
-            &mut formula,
-        )?;
-        start = end + 1;
-    }
-    Ok(())
-}
-
-// Writes the line and, if it is a case, the answer; says how long the slices are after it. Where writing fails, the slices hold what the line
-// gave, or what they held.
-fn take_line(
-    rt: &impl Print,
-    line: &[u8],
-    lengths: Lengths,
-    first: &mut [u8; SPACE],
-    second: &mut [u8; SPACE],
-    formula: &mut [u8; SPACE],
-) -> io::Result<Lengths>
-    requires { LengthsFit lengths.first lengths.second lengths.formula }
-    ensures { IfOk result (λ after. LengthsFit after.first after.second after.formula) }
-{
-    rt.write_all(line)?;
-    let after = take(rt, line, lengths, first, second, formula)?;
-    rt.write_all(b"\n")?;
-    Ok(after)
-}
-
-// The first letter says what the line gives. Where writing fails, the slices hold what they held.
-fn take(
-    rt: &impl Print,
-    line: &[u8],
-    lengths: Lengths,
-    first: &mut [u8; SPACE],
-    second: &mut [u8; SPACE],
-    formula: &mut [u8; SPACE],
-) -> io::Result<Lengths>
-    requires { LengthsFit lengths.first lengths.second lengths.formula }
-    ensures { IfOk result (λ after. LengthsFit after.first after.second after.formula) }
-{
-    if line.len() == 0 {
-        return Ok(lengths);
-    }
-    let text = &line[1..];
-    match line[0] {
-        b'1' => Ok(lengths.with_first(spell::spell(text, first))),
-        b'2' => Ok(lengths.with_second(spell::spell(text, second))),
-        b'f' => Ok(lengths.with_formula(spell::spell(text, formula))),
-        b'w' => {
-            run_case(rt, text, lengths, first, second, formula)?;
-            Ok(lengths)
-        }
-        _ => Ok(lengths),
-    }
-}
-
-fn run_case(
-    rt: &impl Print,
-    text: &[u8],
-    lengths: Lengths,
-    first: &[u8; SPACE],
-    second: &[u8; SPACE],
-    formula: &[u8; SPACE],
-) -> io::Result<()>
-    requires { LengthsFit lengths.first lengths.second lengths.formula }
-{
-    let a = lengths.first;
-    let b = lengths.second;
-    let c = lengths.formula;
-    let f = &first[..];
-    let s = &second[..];
-    let g = &formula[..];
-    run::run(rt, text, &f[0..a], &s[0..b], &g[0..c])
+    let mut given = Given::nothing();
+    input::each_line(rt.stdin(), |line| {
+        rt.write_all(line)?;
+        given.take(&rt, line)?;
+        rt.print("\n")
+    })
 }

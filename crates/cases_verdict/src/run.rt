@@ -1,9 +1,6 @@
 // One case: the verdict, with work bytes that are 165 before it.
-ghost use Rattle.std.specs.Prelude.{◌≤◌};
-
-use crate::print;
-use cases_text::text;
-use std::io;
+use cases_text::text::number;
+use std::{fmt, io};
 
 // The bytes that there are to lend, and how many of them the verdict uses.
 const WORK: usize = 65600;
@@ -21,65 +18,47 @@ pub(crate) fn run(
     second: &[u8],
     formula: &[u8],
 ) -> io::Result<()> {
+    let mut numbers = text.splitn(2, |c| *c == b'b');
+    let lent = numbers.next().map_or(0, number).min(WORK);
+    let budget = u32::try_from(numbers.next().map_or(0, number)).unwrap_or(u32::MAX);
     let mut work = [FILL; WORK];
-    let middle = text::find(text, 0, b'b');
-    let lent = lendable(text::number(&text[0..middle]));
-    let budget = budget_of(text::number(&text[middle..]));
-    let answer = gubzsenil::gubzsenil_verdict(first, second, formula, &mut work[0..lent], budget);
-    print::numbers(rt, answer)?;
-    print::work(rt, left_in(&work))
-}
-
-// So many work bytes, or all.
-fn lendable(n: usize) -> usize
-    ensures { result ≤ 65600 }
-{
-    if WORK < n {
-        return WORK;
-    }
-    n
-}
-
-fn budget_of(n: usize) -> u32 {
-    if 4294967295 < n {
-        return 4294967295;
-    }
-    n as u32
+    let answer = gubzsenil::gubzsenil_verdict(first, second, formula, &mut work[..lent], budget);
+    print!(rt;
+        " : {} {} {} {}",
+        answer.result, answer.slice, answer.place, answer.count
+    )?;
+    print!(rt; " {}", left_in(&work))
 }
 
 // What a verdict leaves of the work bytes.
 #[derive(Clone, Copy)]
-pub(crate) enum WorkBytes {
+enum WorkBytes {
     Untouched,
     Cleared,
     Changed,
 }
 
-// What is left in the bytes that the verdict uses and in the rest.
-fn left_in(work: &[u8; WORK]) -> WorkBytes {
-    let whole = &work[..];
-    let used = &whole[0..USED];
-    let rest = &whole[USED..];
-    if !all(rest, FILL) {
-        return WorkBytes::Changed;
+impl fmt::Display for WorkBytes {
+    fn fmt<W: fmt::Write>(&self, f: &mut fmt::Formatter<W>) -> fmt::Result {
+        f.write_str(match self {
+            WorkBytes::Untouched => "untouched",
+            WorkBytes::Cleared => "cleared",
+            WorkBytes::Changed => "changed",
+        })
     }
-    if all(used, FILL) {
-        return WorkBytes::Untouched;
-    }
-    if all(used, 0) {
-        return WorkBytes::Cleared;
-    }
-    WorkBytes::Changed
 }
 
-// Whether every byte is b.
-fn all(bytes: &[u8], b: u8) -> bool {
-    let mut i = 0;
-    while i < bytes.len() {
-        if bytes[i] != b {
-            return false;
-        }
-        i += 1;
+// What is left in the bytes that the verdict uses and in the rest.
+fn left_in(work: &[u8; WORK]) -> WorkBytes {
+    let (used, rest) = work.split_at(USED);
+    let all = |bytes: &[u8], b: u8| bytes.iter().all(|x| *x == b);
+    if !all(rest, FILL) {
+        WorkBytes::Changed
+    } else if all(used, FILL) {
+        WorkBytes::Untouched
+    } else if all(used, 0) {
+        WorkBytes::Cleared
+    } else {
+        WorkBytes::Changed
     }
-    true
 }

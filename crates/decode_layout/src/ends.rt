@@ -6,7 +6,6 @@ ghost use Rattle.decode_layout.specs.Ends.{NumbersEnd, TermEnd, TermsEnd};
 use crate::layout;
 use crate::layout::Layout;
 use decode_number::number;
-use decode_number::number::Decoding;
 
 // The end of one number, or of none.
 fn numbers(s: &[u8], at: usize, count: usize) -> usize
@@ -17,8 +16,7 @@ fn numbers(s: &[u8], at: usize, count: usize) -> usize
     if count == 0 {
         return at;
     }
-    let Decoding(_, end) = number::decoded(s, at);
-    end
+    number::decoded(s, at).end
 }
 
 // The end of so many terms in a row.
@@ -36,8 +34,8 @@ pub fn terms(s: &[u8], at: usize, count: usize) -> usize
         if s.len() <= i {
             return i;
         }
-        let k = number::wide(s[i]) % layout::TERM_KINDS;
-        let Layout(fields, _, _, parts) = layout::term(k);
+        let k = usize::from(s[i]) % layout::TERM_KINDS;
+        let Layout { fields, parts, .. } = layout::term(k);
         i = numbers(s, i + 1, fields);
         left = left - 1 + parts;
     }

@@ -8,3 +8,4 @@ pub mod layout;
 pub mod limit;
 pub mod process_kind;
 pub mod term_kind;
+pub mod unknown_kind;

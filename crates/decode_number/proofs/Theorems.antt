@@ -1,4 +1,5 @@
 -- Numbers are what arithmetic gives ("Bytes", first paragraph), and a promise leaves one answer only ("Turned back for the input").
+use Rattle.std.specs.Prelude.{Ok, Err}
 use mathlib.Core.Path.{◌≡◌, refl, sym, ap, ◌∙◌}
 use mathlib.Core.Bool.{true, false}
 use mathlib.Core.List.{List, [], ◌∷◌}
@@ -11,11 +12,9 @@ use Rattle.meaning.specs.Bytes.Number.{Read, found, refused}
 use Rattle.decode_number.specs.declared.answer.Refusal.{Refusal}
 use Rattle.decode_number.specs.declared.answer.Refusal.TheVariants.{TooLong, Truncated, Malformed, UnknownKind}
 use Rattle.decode_number.specs.declared.answer.Refusal.TheVariants.{NameRange, OutOfScope, TooDeep, Trailing}
-use Rattle.decode_number.specs.declared.answer.Answer.{Answer}
-use Rattle.decode_number.specs.declared.answer.Answer.TheVariants.{Ends, Refused}
-use Rattle.decode_number.specs.declared.number.Numeral as numerals
-use Rattle.decode_number.specs.declared.number.Numeral.{Numeral}
-use Rattle.decode_number.specs.Answer.{refusal_number, answer, numeral}
+use Rattle.decode_number.specs.declared.number.Fault as faults
+use Rattle.decode_number.specs.declared.number.Fault.{Fault}
+use Rattle.decode_number.specs.Answer.{Answer, refusal_number, answer, Numeral, numeral}
 use Rattle.decode_number.specs.Decoding.{decoded_value, canonical}
 use Rattle.decode_number.specs.Theorems.{NumbersDecoded, AnswersFixed, NumeralsFixed}
 use Rattle.decode_number.proofs.Laws.Decoding.{by_order, none_value, none_end, none_form}
@@ -53,25 +52,25 @@ is_numbered TooDeep = refl
 is_numbered Trailing = refl
 
 abbrev answered : Read (Unit {0}) → Answer
-answered (found u end) = Ends end
-answered (refused number place) = Refused (numbered number) place
+answered (found u end) = Ok end
+answered (refused number place) = Err (record { why = numbered number; place = place })
 
 is_answered : (a : Answer) → answered (answer a) ≡ a
-is_answered (Ends end) = refl
-is_answered (Refused why place) = rw (is_numbered why)
+is_answered (Ok end) = refl
+is_answered (Err r) = rw (is_numbered r.why)
 
 pub answers_fixed : AnswersFixed
 answers_fixed a b e = sym (is_answered a) ∙ ap answered e ∙ is_answered b
 
 abbrev spelled : Read ℕ → Numeral
-spelled (found n end) = numerals.TheVariants.Value n end
+spelled (found n end) = Ok (record { value = n; end = end })
 spelled (refused number place) =
-    elim (eqb number 2) [ true ↦ numerals.TheVariants.Truncated | false ↦ numerals.TheVariants.Malformed ]
+    elim (eqb number 2) [ true ↦ Err faults.TheVariants.Truncated | false ↦ Err faults.TheVariants.Malformed ]
 
 is_spelled : (s : List ℕ) (at : ℕ) (a : Numeral) → spelled (numeral s at a) ≡ a
-is_spelled s at (numerals.TheVariants.Value n end) = refl
-is_spelled s at numerals.TheVariants.Truncated = refl
-is_spelled s at numerals.TheVariants.Malformed = refl
+is_spelled s at (Ok n) = refl
+is_spelled s at (Err faults.TheVariants.Truncated) = refl
+is_spelled s at (Err faults.TheVariants.Malformed) = refl
 
 pub numerals_fixed : NumeralsFixed
 numerals_fixed s at a b e = sym (is_spelled s at a) ∙ ap spelled e ∙ is_spelled s at b

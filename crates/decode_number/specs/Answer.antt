@@ -1,15 +1,13 @@
 -- What the answers of the readers say, in document 01's numbers ("Turned back for the input").
-use Rattle.std.specs.Prelude.{ℕ, List, length}
+use Rattle.std.specs.Prelude.{ℕ, List, length, Result, Ok, Err}
 use Rattle.meaning.specs.Bytes.Number.{Read, found, refused}
 use Rattle.decode_number.specs.declared.answer.Refusal.{Refusal}
 use Rattle.decode_number.specs.declared.answer.Refusal.TheVariants.{TooLong, Truncated, Malformed, UnknownKind}
 use Rattle.decode_number.specs.declared.answer.Refusal.TheVariants.{NameRange, OutOfScope, TooDeep, Trailing}
-use Rattle.decode_number.specs.declared.answer.Answer as answers
-use Rattle.decode_number.specs.declared.answer.Answer.{Answer}
-use Rattle.decode_number.specs.declared.number.Numeral as numerals
-use Rattle.decode_number.specs.declared.number.Numeral.{Numeral}
-use Rattle.decode_number.specs.declared.number.Bounded as bounds
-use Rattle.decode_number.specs.declared.number.Bounded.{Bounded}
+use Rattle.decode_number.specs.declared.answer.Refused.{Refused}
+use Rattle.decode_number.specs.declared.number.Decoding.{Decoding}
+use Rattle.decode_number.specs.declared.number.Fault as faults
+use Rattle.decode_number.specs.declared.number.Fault.{Fault}
 
 -- The number of each refusal.
 abbrev pub refusal_number : Refusal → ℕ
@@ -26,10 +24,19 @@ refusal_number Trailing = 8
 abbrev pub Extent : Type 0
 Extent = Read (Unit {0})
 
--- The answer on a term, a process, a formula or a whole slice.
+-- What a reader answers on a term, a process, a formula or a whole slice: where it ends; or why it is refused, and where.
+abbrev pub Answer : Type 0
+Answer = Result ℕ Refused
+
+abbrev pub ends : (end : ℕ) → Answer
+ends end = Ok end
+
+abbrev pub refuses : Refusal → (place : ℕ) → Answer
+refuses why place = Err (record { why = why; place = place })
+
 abbrev pub answer : Answer → Extent
-answer (answers.TheVariants.Ends end) = found tt end
-answer (answers.TheVariants.Refused why place) = refused (refusal_number why) place
+answer (Ok end) = found tt end
+answer (Err r) = refused (refusal_number r.why) r.place
 
 -- What a reader's answer says of the end.
 unfoldable pub extent : {A : Type 0} → Read A → Extent
@@ -37,12 +44,18 @@ extent (found a end) = found tt end
 extent (refused number place) = refused number place
 
 -- The answer on a number at the position at of s.
+abbrev pub Numeral : Type 0
+Numeral = Result Decoding Fault
+
 abbrev pub numeral : (s : List ℕ) (at : ℕ) → Numeral → Read ℕ
-numeral s at (numerals.TheVariants.Value n end) = found n end
-numeral s at numerals.TheVariants.Truncated = refused 2 (length s)
-numeral s at numerals.TheVariants.Malformed = refused 3 at
+numeral s at (Ok n) = found n.value n.end
+numeral s at (Err faults.TheVariants.Truncated) = refused 2 (length s)
+numeral s at (Err faults.TheVariants.Malformed) = refused 3 at
 
 -- The answer on a number with a limit.
+abbrev pub Bounded : Type 0
+Bounded = Result Decoding Refused
+
 abbrev pub bounded : Bounded → Read ℕ
-bounded (bounds.TheVariants.Is n end) = found n end
-bounded (bounds.TheVariants.Refused why place) = refused (refusal_number why) place
+bounded (Ok n) = found n.value n.end
+bounded (Err r) = refused (refusal_number r.why) r.place

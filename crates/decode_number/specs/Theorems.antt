@@ -1,12 +1,10 @@
 -- The theorems on numbers ("Bytes", first paragraph) and answers ("Turned back for the input"). Their proofs are in
 -- proofs/Theorems.antt, under the same names in snake case.
 use Rattle.std.specs.Prelude.{◌≡◌, List, ℕ}
-use Rattle.decode_number.specs.declared.answer.Answer.{Answer}
-use Rattle.decode_number.specs.declared.number.Numeral.{Numeral}
 use Rattle.meaning.specs.Bytes.WellFormed.{Bytes}
 use Rattle.meaning.specs.Bytes.Number.{number}
 use Rattle.decode_number.specs.Decoding.{decoded_value, decoded_end, canonical}
-use Rattle.decode_number.specs.Answer.{answer, numeral}
+use Rattle.decode_number.specs.Answer.{Answer, answer, Numeral, numeral}
 
 -- In every slice of bytes the number at a position is the one that arithmetic gives, if that is in the one form.
 abbrev pub NumbersDecoded : Type 0

@@ -6,27 +6,18 @@ ghost use Rattle.decode_number.specs.Decoding.{decode, decoded_value, decoded_en
 ghost use Rattle.decode_number.specs.Answer.{answer, numeral, bounded, extent};
 ghost use Rattle.decode_number.specs.Bounded.{number_below};
 
-use crate::answer::{Answer, Refusal};
+use crate::answer::{Refusal, Refused};
 
 // How many numbers one byte can hold, and how many two can.
 const ONE_BYTE: usize = 128;
 
 const TWO_BYTES: usize = 16384;
 
-// The number's value and the position after it; or the bytes end early; or it is not in the one form.
-#[derive(Clone, Copy)]
-pub enum Numeral {
-    Value(usize, usize),
+// Why a number is refused: the bytes end early, or it is not in the one form.
+#[derive(Clone, Copy, Debug, PartialEq, Eq)]
+pub enum Fault {
     Truncated,
     Malformed,
-}
-
-// A byte as a wider number.
-pub fn wide(b: u8) -> usize
-    ensures value { result ≡ b }
-    ensures upper_bound { result < 256 }
-{
-    b as usize
 }
 
 // The value of two bytes: the first one's low seven bits, and 128 times the second times the first one's top bit.
@@ -38,86 +29,89 @@ fn decode(first: usize, second: usize) -> usize
 }
 
 // The value of a number, in whatever form, and the position after it.
-#[derive(Clone, Copy)]
-pub struct Decoding(pub usize, pub usize);
+#[derive(Clone, Copy, Debug, PartialEq, Eq)]
+pub struct Decoding {
+    pub value: usize,
+    pub end: usize,
+}
 
 // The number at a position, in whatever form. Where the bytes end early, the position after it is that position itself. A number of one
 // byte has that byte for its last, which then counts 0 times.
 pub fn decoded(s: &[u8], at: usize) -> Decoding
-    ensures result_value { result.0 ≡ decoded_value s.now at }
-    ensures result_value_2 { result.1 ≡ decoded_end s.now at }
-    ensures at_value { number s.now at ≡ canonical s.now at result.0 result.1 }
+    ensures result_value { result.value ≡ decoded_value s.now at }
+    ensures result_value_2 { result.end ≡ decoded_end s.now at }
+    ensures at_value { number s.now at ≡ canonical s.now at result.value result.end }
 {
     if s.len() <= at {
-        return Decoding(0, at);
+        return Decoding { value: 0, end: at };
     }
-    let first = wide(s[at]);
+    let first = usize::from(s[at]);
     let place = at + first / 128;
     if s.len() <= place {
-        return Decoding(decode(first, 0), at);
+        let value = decode(first, 0);
+        return Decoding { value, end: at };
     }
-    let last = wide(s[place]);
-    Decoding(decode(first, last), place + 1)
+    let last = usize::from(s[place]);
+    let value = decode(first, last);
+    Decoding {
+        value,
+        end: place + 1,
+    }
 }
 
 // The number at a position: seven bits to a byte, low bits first, in one byte or two.
-pub fn read(s: &[u8], at: usize) -> Numeral
+pub fn read(s: &[u8], at: usize) -> Result<Decoding, Fault>
     ensures { numeral s.now at result ≡ number s.now at }
 {
-    let Decoding(value, end) = decoded(s, at);
+    let Decoding { value, end } = decoded(s, at);
     if end <= at {
-        return Numeral::Truncated;
+        return Err(Fault::Truncated);
     }
     if TWO_BYTES <= value {
-        return Numeral::Malformed;
+        return Err(Fault::Malformed);
     }
     if end - at - 1 <= value / ONE_BYTE {
-        return Numeral::Value(value, end);
+        return Ok(Decoding { value, end });
     }
-    Numeral::Malformed
-}
-
-// A number below a limit and the position after it; or why it is refused, and where.
-#[derive(Clone, Copy)]
-pub enum Bounded {
-    Is(usize, usize),
-    Refused(Refusal, usize),
+    Err(Fault::Malformed)
 }
 
 // A number that is refused for this reason unless it is below the limit.
-fn below_any(s: &[u8], at: usize, limit: usize, why: Refusal) -> Bounded
+fn below_any(s: &[u8], at: usize, limit: usize, why: Refusal) -> Result<Decoding, Refused>
     ensures { bounded result ≡ number_below limit why s.now at }
 {
-    match read(s, at) {
-        Numeral::Value(n, end) => {
-            if n < limit {
-                Bounded::Is(n, end)
-            } else {
-                Bounded::Refused(why, at)
-            }
-        }
-        Numeral::Truncated => Bounded::Refused(Refusal::Truncated, s.len()),
-        Numeral::Malformed => Bounded::Refused(Refusal::Malformed, at),
-    }
+    let (why, place) = match read(s, at) {
+        Ok(number) if number.value < limit => return Ok(number),
+        Ok(_) => (why, at),
+        Err(Fault::Truncated) => (Refusal::Truncated, s.len()),
+        Err(Fault::Malformed) => (Refusal::Malformed, at),
+    };
+    Err(Refused { why, place })
 }
 
 // The same, for a limit below which every number has one byte: any other first byte is refused, for whatever reason.
-fn below_short(s: &[u8], at: usize, limit: usize, why: Refusal) -> Bounded
+fn below_short(s: &[u8], at: usize, limit: usize, why: Refusal) -> Result<Decoding, Refused>
     requires { limit ≤ 128 }
     ensures { bounded result ≡ number_below limit why s.now at }
 {
     if s.len() <= at {
-        return Bounded::Refused(Refusal::Truncated, s.len());
+        return Err(Refused {
+            why: Refusal::Truncated,
+            place: s.len(),
+        });
     }
-    let first = wide(s[at]);
+    let first = usize::from(s[at]);
     if first < limit {
-        return Bounded::Is(first, at + 1);
+        return Ok(Decoding {
+            value: first,
+            end: at + 1,
+        });
     }
     below_any(s, at, limit, why)
 }
 
 // The same, for every limit.
-pub fn below(s: &[u8], at: usize, limit: usize, why: Refusal) -> Bounded
+pub fn below(s: &[u8], at: usize, limit: usize, why: Refusal) -> Result<Decoding, Refused>
     ensures { bounded result ≡ number_below limit why s.now at }
 {
     if limit <= ONE_BYTE {
@@ -127,11 +121,9 @@ pub fn below(s: &[u8], at: usize, limit: usize, why: Refusal) -> Bounded
 }
 
 // The same, where only its end is asked for.
-pub fn end_below(s: &[u8], at: usize, limit: usize, why: Refusal) -> Answer
+pub fn end_below(s: &[u8], at: usize, limit: usize, why: Refusal) -> Result<usize, Refused>
     ensures { answer result ≡ extent (number_below limit why s.now at) }
 {
-    match below(s, at, limit, why) {
-        Bounded::Is(_, end) => Answer::Ends(end),
-        Bounded::Refused(other, place) => Answer::Refused(other, place),
-    }
+    let Decoding { end, .. } = below(s, at, limit, why)?;
+    Ok(end)
 }

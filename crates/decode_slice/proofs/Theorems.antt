@@ -11,9 +11,8 @@ use Rattle.meaning.specs.Bytes.Number.{Read, found, refused}
 use Rattle.meaning.specs.Bytes.Reading.{read_model, read_formula}
 use Rattle.meaning.proofs.Bytes.Reading.{models_read, formulas_read}
 use Rattle.meaning.proofs.Bytes.Refusal.{models_refused, formulas_refused}
-use Rattle.decode_number.specs.declared.answer.Answer.{Answer}
-use Rattle.decode_number.specs.declared.answer.Answer.TheVariants.{Ends, Refused}
-use Rattle.decode_number.specs.Answer.{refusal_number, answer, extent}
+use Rattle.decode_number.specs.Answer as answers
+use Rattle.decode_number.specs.Answer.{Answer, refusal_number, answer, extent}
 use Rattle.decode_number.proofs.Theorems.{answers_fixed, never}
 use Rattle.decode_slice.specs.Exact.{Exact, ModelAnswer, FormulaAnswer}
 use Rattle.decode_slice.specs.Theorems.{ModelsExact, FormulasExact}
@@ -27,7 +26,7 @@ module _ {A : Type 0} (s : List ℕ) (Is : A → Type 0) (Refuses : (number plac
   exact (found x end) reads refuses a e = record {
     ends = λ other. (
       λ f. let is = (reads x).1 end refl in let whole = (reads x).0 is in let same : other ≡ end = cc in (cc, (x, is)),
-      λ f. let is = (reads x).1 end refl in let whole = (reads x).0 is in answers_fixed a (Ends other) (cc),
+      λ f. let is = (reads x).1 end refl in let whole = (reads x).0 is in answers_fixed a (answers.ends other) (cc),
     );
     refuses = λ why place. (λ f. never (cc), λ t. let here = (refuses (refusal_number why) place).1 t in never (cc));
   }
@@ -35,7 +34,7 @@ module _ {A : Type 0} (s : List ℕ) (Is : A → Type 0) (Refuses : (number plac
     ends = λ end. (λ f. never (cc), λ f. let here = (reads f.1.0).0 f.1.1 in never (cc));
     refuses = λ why there. (
       λ f. (refuses (refusal_number why) there).0 (cc),
-      λ t. let here = (refuses (refusal_number why) there).1 t in answers_fixed a (Refused why there) (cc),
+      λ t. let here = (refuses (refusal_number why) there).1 t in answers_fixed a (answers.refuses why there) (cc),
     );
   }
 

@@ -3,15 +3,14 @@ use Rattle.std.specs.Prelude.{◌≡◌, ◌↔◌, List, ℕ, length}
 use Rattle.meaning.specs.Bytes.WellFormed.{IsModel, IsFormula}
 use Rattle.meaning.specs.Bytes.Refusal.{Refusal as RefusedBy, process, formula}
 use Rattle.decode_number.specs.declared.answer.Refusal.{Refusal}
-use Rattle.decode_number.specs.declared.answer.Answer.{Answer}
-use Rattle.decode_number.specs.declared.answer.Answer.TheVariants.{Ends, Refused}
-use Rattle.decode_number.specs.Answer.{refusal_number}
+use Rattle.decode_number.specs.Answer as answers
+use Rattle.decode_number.specs.Answer.{Answer, refusal_number}
 
 -- It is an end exactly when the slice is the encoding of something well-formed, and then it is the slice's end. It is a refusal
 -- exactly when the rules refuse the slice for that reason at that place.
 pub record Exact {A : Type 0} (s : List ℕ) (Is : A → Type 0) (Refuses : (number place : ℕ) → Type 0) (a : Answer) : Type 0 where
-  pub ends : (end : ℕ) → (a ≡ Ends end) ↔ ((end ≡ length s) × ((x : A) × Is x))
-  pub refuses : (why : Refusal) (place : ℕ) → (a ≡ Refused why place) ↔ Refuses (refusal_number why) place
+  pub ends : (end : ℕ) → (a ≡ answers.ends end) ↔ ((end ≡ length s) × ((x : A) × Is x))
+  pub refuses : (why : Refusal) (place : ℕ) → (a ≡ answers.refuses why place) ↔ Refuses (refusal_number why) place
 
 abbrev pub ModelAnswer : List ℕ → Answer → Type 0
 ModelAnswer s = Exact s (IsModel s) (RefusedBy s (process 64 0))

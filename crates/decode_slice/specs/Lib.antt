@@ -1,3 +1,4 @@
 pub mod Exact
 pub mod Sorts
+pub mod Paths
 pub mod Theorems

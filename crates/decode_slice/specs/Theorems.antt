@@ -3,8 +3,7 @@
 use Rattle.std.specs.Prelude.{◌≡◌, List, ℕ}
 use Rattle.meaning.specs.Bytes.WellFormed.{Bytes}
 use Rattle.meaning.specs.Bytes.Reading.{read_model, read_formula}
-use Rattle.decode_number.specs.declared.answer.Answer.{Answer}
-use Rattle.decode_number.specs.Answer.{answer, extent}
+use Rattle.decode_number.specs.Answer.{Answer, answer, extent}
 use Rattle.decode_slice.specs.Exact.{ModelAnswer, FormulaAnswer}
 
 -- An answer that says of a slice what the reader of `meaning` says is the one that the rules ask for.

@@ -6,54 +6,61 @@ mod formula;
 mod process;
 
 ghost use Rattle.std.specs.Prelude.{◌≡◌};
+ghost use Rattle.meaning.specs.Bytes.Number.{found};
 ghost use Rattle.meaning.specs.Bytes.Reading.{read_model, read_formula};
 ghost use Rattle.decode_number.specs.Answer.{answer, extent};
 ghost use Rattle.decode_slice.specs.Exact.{ModelAnswer, FormulaAnswer};
 ghost use Rattle.decode_slice.specs.Sorts.{to_the_end};
 
 use decode_layout::limit;
-use decode_number::answer::{Answer, Refusal};
+use decode_number::answer::{Refusal, Refused};
+use decode_term::sort;
 
 // The most bytes of a slice.
 const BYTES: usize = limit::SLICE;
 
 // A model, as a whole slice.
-pub fn read_model(s: &[u8]) -> Answer
+pub fn read_model(s: &[u8]) -> Result<usize, Refused>
     ensures result_value { answer result ≡ extent (read_model s.now) }
     ensures model_answer { ModelAnswer s.now result }
 {
     if BYTES < s.len() {
-        return Answer::Refused(Refusal::TooLong, BYTES);
+        let why = Refusal::TooLong;
+        return Err(Refused { why, place: BYTES });
     }
-    to_the_end(s, process::read(s, 0, 0, limit::PROCESS_NODES))
+    let path = process::Path {
+        scope: 0,
+        left: limit::PROCESS_NODES,
+    };
+    let end = sort::read(s, 0, path)?;
+    to_the_end(s, end)
 }
 
 // A formula, as a whole slice.
-pub fn read_formula(s: &[u8]) -> Answer
+pub fn read_formula(s: &[u8]) -> Result<usize, Refused>
     ensures result_value { answer result ≡ extent (read_formula s.now) }
     ensures formula_answer { FormulaAnswer s.now result }
 {
     if BYTES < s.len() {
-        return Answer::Refused(Refusal::TooLong, BYTES);
+        let why = Refusal::TooLong;
+        return Err(Refused { why, place: BYTES });
     }
-    to_the_end(
-        s,
-        formula::read(s, 0, 0, limit::FORMULA_NODES, limit::STEP_FORMULAS),
-    )
+    let path = formula::Path {
+        scope: 0,
+        left: limit::FORMULA_NODES,
+        steps: limit::STEP_FORMULAS,
+    };
+    let end = sort::read(s, 0, path)?;
+    to_the_end(s, end)
 }
 
-// The same answer, unless bytes are left over.
-fn to_the_end(s: &[u8], read: Answer) -> Answer
-    ensures { answer result ≡ to_the_end s.now (answer read) }
+// What ends here, unless bytes are left over.
+fn to_the_end(s: &[u8], end: usize) -> Result<usize, Refused>
+    ensures { answer result ≡ to_the_end s.now (found tt end) }
 {
-    match read {
-        Answer::Ends(end) => {
-            if end < s.len() {
-                Answer::Refused(Refusal::Trailing, end)
-            } else {
-                Answer::Ends(end)
-            }
-        }
-        Answer::Refused(why, place) => Answer::Refused(why, place),
+    if end < s.len() {
+        let why = Refusal::Trailing;
+        return Err(Refused { why, place: end });
     }
+    Ok(end)
 }

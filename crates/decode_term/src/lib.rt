@@ -2,4 +2,5 @@
 // for the input").
 #![tactic(auto)]
 
+pub mod sort;
 pub mod term;

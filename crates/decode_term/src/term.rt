@@ -1,88 +1,74 @@
 // Terms ("Bytes", the term kinds; 2 to 7).
-ghost use Rattle.std.specs.Prelude.{◌≡◌};
+ghost use Rattle.std.specs.Prelude.{◌≡◌, true, ⊤};
 ghost use Rattle.meaning.specs.Bytes.Reading.{term};
-ghost use Rattle.decode_number.specs.Answer.{answer, bounded, extent};
-ghost use Rattle.decode_term.specs.Shape.{leaf, term_head, terms_at};
+ghost use Rattle.decode_number.specs.Answer.{answer, extent};
+ghost use Rattle.decode_layout.specs.Layout.{term_layouts};
+ghost use Rattle.decode_term.specs.Shape.{leaf, terms_at};
+ghost use Rattle.decode_term.specs.Path.{term_below};
 
-use decode_layout::layout::Layout;
+use crate::sort;
+use crate::sort::Sort;
 use decode_layout::{layout, limit};
-use decode_number::answer::{Answer, Refusal};
+use decode_number::answer::{Refusal, Refused};
 use decode_number::number;
-use decode_number::number::Bounded;
 
-// The number that follows the kind of a public name or a variable; the other kinds have none.
-fn leaf(s: &[u8], at: usize, scope: usize, k: usize) -> Answer
-    ensures { answer result ≡ leaf scope s.now k at }
-{
-    match k {
-        0 => number::end_below(s, at, limit::NAMES, Refusal::NameRange),
-        1 => number::end_below(s, at, scope, Refusal::OutOfScope),
-        _ => Answer::Ends(at),
-    }
+// How many variables are in scope, and how many term nodes are left on a path.
+#[derive(Clone, Copy)]
+struct Path {
+    scope: usize,
+    left: usize,
 }
 
-// A term's kind and its number, if it has one.
-fn head(s: &[u8], at: usize, scope: usize, left: usize) -> Bounded
-    ensures { bounded result ≡ term_head left scope s.now at }
-{
-    match number::below(s, at, layout::TERM_KINDS, Refusal::UnknownKind) {
-        Bounded::Is(k, next) => {
-            if left == 0 {
-                return Bounded::Refused(Refusal::TooDeep, at);
-            }
-            match leaf(s, next, scope, k) {
-                Answer::Ends(end) => Bounded::Is(k, end),
-                Answer::Refused(why, place) => Bounded::Refused(why, place),
-            }
-        }
-        Bounded::Refused(why, place) => Bounded::Refused(why, place),
-    }
-}
+// A term's own field is the number of a public name or a variable; the other kinds have none.
+impl Sort for Path {
+    ghost KINDS = { 8 };
 
-// The term at a position, with so many variables in scope and so many term nodes left on its path. The last part of a node is read
-// by the loop.
-fn read(s: &[u8], at: usize, scope: usize, left: usize) -> Answer
-    ensures { answer result ≡ extent (term left scope s.now at) }
-{
-    let mut i = at;
-    let mut nodes = left;
-    loop {
-        match head(s, i, scope, nodes) {
-            Bounded::Is(k, end) => {
-                let Layout(_, _, _, n) = layout::term(k);
-                if n == 0 {
-                    return Answer::Ends(end);
-                }
-                nodes = nodes - 1;
-                i = end;
-                if n == 1 {
-                    continue;
-                }
-                match read(s, end, scope, nodes) {
-                    Answer::Ends(mid) => {
-                        i = mid;
-                    }
-                    Answer::Refused(why, place) => {
-                        return Answer::Refused(why, place);
-                    }
-                }
-            }
-            Bounded::Refused(why, place) => {
-                return Answer::Refused(why, place);
-            }
+    ghost table = { term_layouts };
+
+    ghost left = { λ p. p.left };
+
+    ghost room = { λ p k. true };
+
+    ghost own = { λ p. leaf p.scope };
+
+    ghost below = { λ p k. term_below p };
+
+    ghost tree = { λ p s at. extent (term p.left p.scope s at) };
+
+    ghost fits = { λ p. ⊤ };
+
+    const KINDS: usize = layout::TERM_KINDS;
+
+    fn parts_of(k: usize) -> usize {
+        layout::term(k).parts
+    }
+
+    fn may_stand(self, _k: usize) -> bool {
+        0 < self.left
+    }
+
+    fn fields_end(self, s: &[u8], at: usize, k: usize) -> Result<usize, Refused> {
+        match k {
+            0 => number::end_below(s, at, limit::NAMES, Refusal::NameRange),
+            1 => number::end_below(s, at, self.scope, Refusal::OutOfScope),
+            _ => Ok(at),
         }
+    }
+
+    fn to_parts(self, _k: usize) -> Path {
+        let left = self.left - 1;
+        Path { left, ..self }
     }
 }
 
 // So many terms in a row, each with all its nodes left.
-pub fn fields(s: &[u8], at: usize, scope: usize, count: usize) -> Answer
+pub fn fields(s: &[u8], at: usize, scope: usize, count: usize) -> Result<usize, Refused>
     ensures { answer result ≡ terms_at count scope s.now at }
 {
     if count == 0 {
-        return Answer::Ends(at);
+        return Ok(at);
     }
-    match read(s, at, scope, limit::TERM_NODES) {
-        Answer::Ends(next) => fields(s, next, scope, count - 1),
-        Answer::Refused(why, place) => Answer::Refused(why, place),
-    }
+    let left = limit::TERM_NODES;
+    let next = sort::read(s, at, Path { scope, left })?;
+    fields(s, next, scope, count - 1)
 }

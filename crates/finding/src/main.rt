@@ -8,7 +8,6 @@ use std::fs::File;
 use std::io;
 use std::io::Read;
 use std::rt::Files;
-use verdict_input::answer::Answer;
 
 // One byte more than a slice may have, so that a longer file is one that the verdict refuses.
 const SLICE: usize = 4097;
@@ -47,37 +46,23 @@ fn read_full(file: &mut impl Read, slice: &mut [u8]) -> io::Result<usize>
     Ok(done)
 }
 
-// Writes a number, and what stands behind it.
-fn print(rt: &impl Print, number: u32, behind: &str) -> io::Result<()> {
-    print!(rt; "{number}{behind}")
-}
-
-// The verdict on three slices.
-fn judge(rt: &impl Print, first: &[u8], second: &[u8], formula: &[u8]) -> io::Result<()> {
-    let mut work = [0u8; WORK];
-    let answer: Answer = gubzsenil::gubzsenil_verdict(first, second, formula, &mut work, BUDGET);
-    print(rt, answer.result, " ")?;
-    print(rt, answer.slice, " ")?;
-    print(rt, answer.place, " ")?;
-    print(rt, answer.count, "\n")
-}
-
-// The same on two slices, and on the formula that a file has.
-fn with_formula(rt: &(impl Files + Print), first: &[u8], second: &[u8]) -> io::Result<()> {
-    let mut formula = [0u8; SLICE];
-    let n = load(rt, "formula.bin", &mut formula)?;
-    judge(rt, first, second, &formula[0..n])
-}
-
-// The same on one slice, and on the second model and the formula that files have.
-fn with_second(rt: &(impl Files + Print), first: &[u8]) -> io::Result<()> {
-    let mut second = [0u8; SLICE];
-    let n = load(rt, "second.bin", &mut second)?;
-    with_formula(rt, first, &second[0..n])
-}
-
 fn main(rt: HostRuntime) -> io::Result<()> {
     let mut first = [0u8; SLICE];
+    let mut second = [0u8; SLICE];
+    let mut formula = [0u8; SLICE];
     let n = load(&rt, "first.bin", &mut first)?;
-    with_second(&rt, &first[0..n])
+    let k = load(&rt, "second.bin", &mut second)?;
+    let l = load(&rt, "formula.bin", &mut formula)?;
+    let mut work = [0u8; WORK];
+    let answer = gubzsenil::gubzsenil_verdict(
+        &first[..n],
+        &second[..k],
+        &formula[..l],
+        &mut work,
+        BUDGET,
+    );
+    println!(rt;
+        "{} {} {} {}",
+        answer.result, answer.slice, answer.place, answer.count
+    )
 }

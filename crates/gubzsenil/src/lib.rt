@@ -6,7 +6,6 @@ ghost use Rattle.gubzsenil.specs.Verdict.{Promise};
 use decode_layout::limit;
 use verdict_input::answer::Answer;
 use verdict_input::input;
-use verdict_input::input::Input;
 use verdict_state::models;
 
 // The verdict on two models and a formula, with a work buffer and a budget of visits. What it promises of the four numbers and of every
@@ -21,7 +20,7 @@ pub fn gubzsenil_verdict(
     ensures { Promise first.now second.now formula.now work.old budget result work.new }
 {
     match input::read(first, second, formula, work.len()) {
-        Input::Good => models::judge(first, second, formula, &mut work[0..limit::WORK], budget),
-        Input::Bad(refused) => refused,
+        Ok(()) => models::judge(first, second, formula, &mut work[0..limit::WORK], budget),
+        Err(refused) => refused,
     }
 }

@@ -39,45 +39,25 @@ pub fn none(at: usize) -> Entry
 pub fn large(entry: Entry) -> bool
     ensures { IsLarge entry result }
 {
-    if limit::SLICE < entry.end {
-        return true;
-    }
-    if limit::SLICE < entry.output {
-        return true;
-    }
-    if limit::SLICE < entry.input {
-        return true;
-    }
-    if limit::SLICE < entry.names {
-        return true;
-    }
-    if MOST < entry.growth {
-        return true;
-    }
-    false
+    limit::SLICE < entry.end
+        || limit::SLICE < entry.output
+        || limit::SLICE < entry.input
+        || limit::SLICE < entry.names
+        || MOST < entry.growth
 }
 
 // The later one of two positions.
 fn latest(a: usize, b: usize) -> usize
     ensures { result ≡ latest a b }
 {
-    if a < b { b } else { a }
+    a.max(b)
 }
 
 // Names of two processes together, each given with one more; 0 if either is open.
 fn together(a: usize, b: usize) -> usize
     ensures { Together a b result }
 {
-    if a == 0 {
-        return 0;
-    }
-    if b == 0 {
-        return 0;
-    }
-    if limit::SLICE < a {
-        return 0;
-    }
-    if limit::SLICE < b {
+    if a == 0 || b == 0 || limit::SLICE < a || limit::SLICE < b {
         return 0;
     }
     a + b - 1
@@ -87,13 +67,7 @@ fn together(a: usize, b: usize) -> usize
 fn capped(a: usize, b: usize) -> usize
     ensures { result ≡ capped a b }
 {
-    if MOST <= a {
-        return MOST;
-    }
-    if MOST - a <= b {
-        return MOST;
-    }
-    a + b
+    a.saturating_add(b).min(MOST)
 }
 
 // A number of names as a byte has it: 0, so open, if it is too large for a byte.
@@ -125,11 +99,9 @@ fn named(entry: Entry, names: usize, growth: usize) -> Entry
     ensures { result ≡ named entry names growth }
 {
     Entry {
-        end: entry.end,
-        output: entry.output,
-        input: entry.input,
-        names: names,
-        growth: growth,
+        names,
+        growth,
+        ..entry
     }
 }
 

@@ -98,7 +98,7 @@ fn note(f: &mut [u8], at: usize, entry: Entry)
 }
 
 // Notes the entries of the formula at a position and of all that is in it, with so many nodes left on its path; the answer is its own.
-#[cycle(index_row)]
+#[cycle(indexing)]
 fn index(f: &mut [u8], at: usize, left: usize) -> Entry
     requires { length f.old ≡ 12288 }
     ensures within { Within 4096 12288 f.old f.new }
@@ -110,8 +110,8 @@ fn index(f: &mut [u8], at: usize, left: usize) -> Entry
     if limit::SLICE <= at {
         return none(at);
     }
-    let kind = word::wide(f[at]) % layout::FORMULA_KINDS;
-    let Layout(fields, _, _, parts) = layout::formula(kind);
+    let kind = usize::from(f[at]) % layout::FORMULA_KINDS;
+    let Layout { fields, parts, .. } = layout::formula(kind);
     let own = ends::terms(f, at + 1, fields);
     let entry = node(kind, row(f, own, left - 1, parts));
     note(f, at, entry);
@@ -119,7 +119,7 @@ fn index(f: &mut [u8], at: usize, left: usize) -> Entry
 }
 
 // The same of so many formulas in a row, two at most.
-#[cycle(index_row)]
+#[cycle(indexing)]
 fn row(f: &mut [u8], at: usize, left: usize, count: usize) -> Entry
     requires { length f.old ≡ 12288 }
     ensures within { Within 4096 12288 f.old f.new }

@@ -1,5 +1,5 @@
 -- The index of a model: an entry for each of its processes ("Bytes").
-use Rattle.std.specs.Prelude.{◌≡◌, List, [], ◌∷◌, ◌++◌, Bool, ℕ, ◌+◌, ◌*◌, ◌≤◌, ◌<◌, length, get_or}
+use Rattle.std.specs.Prelude.{◌≡◌, List, [], ◌∷◌, ◌++◌, Bool, Option, Some, None, ℕ, zero, suc, ◌+◌, ◌*◌, ◌≤◌, ◌<◌, length, get_or}
 use Rattle.meaning.specs.Bytes.Process.{output, input, Process, nil, new, act, if, let_in, par, repl}
 use Rattle.meaning.specs.Bytes.Encoding.{encode_term, encode_process}
 use Rattle.meaning.specs.Bytes.Nesting.{process_depth}
@@ -10,6 +10,11 @@ use Rattle.buffer.specs.Word.{encode_word}
 use Rattle.decode_layout.specs.Ends.{row}
 use Rattle.index_entry.specs.declared.entry.Entry.{Entry}
 use Rattle.index_entry.specs.Entry.{last_of, fixed_names, growth, short, entry_of, row_of, Small}
+
+-- One less than a number that is not 0.
+abbrev pub one_less : ℕ → Option ℕ
+one_less zero = None
+one_less (suc n) = Some n
 
 -- A model with its index beside it takes at most 36,864 bytes.
 abbrev pub ShortModel : List ℕ → Type 0
@@ -67,8 +72,8 @@ pub record Ends (s : List ℕ) (at r : ℕ) : Type 0 where
 pub record Lasts (s : List ℕ) (at : ℕ) (out : Bool) (r : ℕ) : Type 0 where
   pub same : (P : Process) {end : ℕ} → InModel s at P end → r ≡ last_of out at P
 
-pub record Fixes (s : List ℕ) (at r : ℕ) : Type 0 where
-  pub same : (P : Process) {end : ℕ} → InModel s at P end → r ≡ short (fixed_names P)
+pub record Fixes (s : List ℕ) (at : ℕ) (r : Option ℕ) : Type 0 where
+  pub same : (P : Process) {end : ℕ} → InModel s at P end → r ≡ one_less (short (fixed_names P))
 
 pub record GrowsBy (s : List ℕ) (at r : ℕ) : Type 0 where
   pub same : (P : Process) {end : ℕ} → InModel s at P end → r ≡ growth P

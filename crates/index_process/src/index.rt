@@ -1,6 +1,6 @@
 // The index of a model ("Bytes"): the model stands in the first 4,096 bytes of a slice, and behind them the entry of each position, eight
 // bytes, says what is to be known of the process that stands there: three numbers in two bytes each, and two in one byte each.
-ghost use Rattle.std.specs.Prelude.{◌+◌, ◌*◌, ◌≤◌, ◌<◌, length};
+ghost use Rattle.std.specs.Prelude.{◌+◌, ◌*◌, ◌≤◌, ◌<◌, length, IfSome};
 ghost use Rattle.buffer.specs.Buffer.{SameLength, WrittenFrom};
 ghost use Rattle.index_process.specs.Index.{Says, SaysByte, Ends, Lasts, Fixes, GrowsBy, Writes, Notes, Indexes, IndexesRow, Builds, ShortModel};
 
@@ -59,7 +59,7 @@ fn byte(s: &[u8], at: usize, field: usize, none: usize) -> usize
     if s.len() < behind + 2 {
         return none;
     }
-    word::wide(s[behind + field])
+    usize::from(s[behind + field])
 }
 
 // The end of the process at a position, if one stands there that the index has.
@@ -84,13 +84,13 @@ pub fn last(s: &[u8], at: usize, output: bool) -> usize
     number(s, at, INPUT)
 }
 
-// How many private names settling such a process takes, and one more; 0 if a message decides that, or if they are above 254, which are more
-// than a state has.
-pub fn names(s: &[u8], at: usize) -> usize
-    ensures upper_bound { result < 256 }
+// How many private names settling such a process takes; none if a message decides that, or if they are above 254, which are more than a
+// state has.
+pub fn names(s: &[u8], at: usize) -> Option<usize>
+    ensures upper_bound { IfSome result (λ n. n < 255) }
     ensures fixes { Fixes s.now at result }
 {
-    byte(s, at, NAMES, 0)
+    byte(s, at, NAMES, 0).checked_sub(1)
 }
 
 // How far such a process may grow; 33 where no entry can stand, as if there were no room for it.
@@ -137,7 +137,7 @@ fn note(s: &mut [u8], at: usize, entry: Entry)
 }
 
 // Notes the entries of the process at a position and of all that is in it, with so many nodes left on its path; the answer is its own.
-#[cycle(index_row)]
+#[cycle(indexing)]
 fn index(s: &mut [u8], at: usize, left: usize) -> Entry
     requires { (4096 ≤ length s.old) × (ShortModel s.old) }
     ensures written_from { WrittenFrom 4096 s.old s.new }
@@ -149,8 +149,8 @@ fn index(s: &mut [u8], at: usize, left: usize) -> Entry
     if limit::SLICE <= at {
         return entry::none(at);
     }
-    let k = word::wide(s[at]) % layout::PROCESS_KINDS;
-    let Layout(fields, _, _, parts) = layout::process(k);
+    let k = usize::from(s[at]) % layout::PROCESS_KINDS;
+    let Layout { fields, parts, .. } = layout::process(k);
     let own = ends::terms(s, at + 1, fields);
     let entry = entry::node(k, at, row(s, own, left - 1, parts));
     note(s, at, entry);
@@ -158,7 +158,7 @@ fn index(s: &mut [u8], at: usize, left: usize) -> Entry
 }
 
 // The same of so many processes in a row, two at most.
-#[cycle(index_row)]
+#[cycle(indexing)]
 fn row(s: &mut [u8], at: usize, left: usize, count: usize) -> Entry
     requires { (4096 ≤ length s.old) × (ShortModel s.old) }
     ensures written_from { WrittenFrom 4096 s.old s.new }

@@ -41,17 +41,13 @@ pub fn message(x: &[u8], m: &mut [u8], end: usize) -> usize
 
 // Works the term at a position under the messages bound at base, and binds its message after whatever messages' entries end at the
 // position end, the same or others. The answer is that of `work::term`; the bytes behind the message are left open.
-pub fn term(s: &[u8], at: usize, m: &mut [u8], base: usize, end: usize) -> Worked
+pub fn term(s: &[u8], at: usize, m: &mut [u8], base: usize, end: usize) -> Option<Worked>
     requires { (base ≤ end) × (end + 4098 ≤ length m.old) }
     ensures within { Within end (end + 4098) m.old m.new }
     ensures reaches { Reaches (end + 2) 8 result }
     ensures bind_worked { BindWorked s.now at m.old base end result m.new }
 {
-    match work::term(s, at, m, base, end + 2) {
-        Worked::Done(next, last) => {
-            word::write(m, end, (last - end - 2) / 2);
-            Worked::Done(next, last)
-        }
-        Worked::TooLarge => Worked::TooLarge,
-    }
+    let worked = work::term(s, at, m, base, end + 2)?;
+    word::write(m, end, (worked.end - end - 2) / 2);
+    Some(worked)
 }

@@ -7,14 +7,8 @@ pub fn parts(number: usize) -> usize
     ensures { result ≡ parts_of number }
 {
     match number {
-        0 => 0,
-        1 => 0,
-        2 => 2, // pair
-        3 => 1, // fst
-        4 => 1, // snd
-        5 => 2, // enc
-        6 => 2, // dec
-        7 => 2, // mac
-        _ => 0, // a name
+        2 | 5 | 6 | 7 => 2, // pair, enc, dec, mac
+        3 | 4 => 1, // fst, snd
+        _ => 0, // zero, one, a name
     }
 }

@@ -8,10 +8,6 @@ use buffer::word;
 // The most bytes of a run that is kept: 255 nodes ("Judging and its count").
 pub const LENGTH: usize = 510;
 
-// A part of a slice, from one position to another.
-#[derive(Clone, Copy)]
-pub struct Part(pub usize, pub usize);
-
 // The nodes of the message that stands at the front; of a normal form, that is its size. A node is counted, and its parts are still to
 // come.
 pub fn size(m: &[u8]) -> usize
@@ -35,15 +31,5 @@ pub fn compare(a: &[u8], b: &[u8]) -> bool
     ensures value { result ≡ alike a.now b.now }
     ensures decides { Decides a.now b.now result }
 {
-    if a.len() != b.len() {
-        return false;
-    }
-    let mut i = 0;
-    while i < a.len() {
-        if a[i] != b[i] {
-            return false;
-        }
-        i += 1;
-    }
-    true
+    a == b
 }

@@ -3,7 +3,7 @@ ghost use Rattle.std.specs.Prelude.{◌+◌, ◌≤◌, length};
 ghost use Rattle.message_term.specs.Bound.{Begins, Found};
 
 use buffer::word;
-use message_bytes::run::Part;
+use std::ops::Range;
 
 // Where the entry of variable k begins: the number before each message tells where the next one is.
 fn skip(b: &[u8], k: usize) -> usize
@@ -11,29 +11,27 @@ fn skip(b: &[u8], k: usize) -> usize
     ensures begins { Begins b.now k result }
 {
     let mut at = 0;
-    let mut i = 0;
-    while i < k {
+    for _ in 0..k {
         if b.len() < at + 2 {
             return at;
         }
         at = at + 2 + 2 * word::number(b, at);
-        i += 1;
     }
     at
 }
 
 // The message of variable k; where there is none, some part of the slice.
-pub(crate) fn find(b: &[u8], k: usize) -> Part
-    ensures result_le_result { (result.0 ≤ result.1) × (result.1 ≤ length b.now) }
-    ensures found { Found b.now k result.0 result.1 }
+pub(crate) fn find(b: &[u8], k: usize) -> Range<usize>
+    ensures result_le_result { (result.start ≤ result.end) × (result.end ≤ length b.now) }
+    ensures found { Found b.now k result.start result.end }
 {
     let at = skip(b, k);
     if b.len() < at + 2 {
-        return Part(0, 0);
+        return 0..0;
     }
     let end = at + 2 + 2 * word::number(b, at);
     if b.len() < end {
-        return Part(0, 0);
+        return 0..0;
     }
-    Part(at + 2, end)
+    at + 2..end
 }

@@ -9,10 +9,8 @@ ghost use Rattle.state_build.specs.Build.{OpensBuilt};
 ghost use Rattle.state_head.specs.Head.{RoomAtNode, BoundFits};
 ghost use Rattle.index_process.specs.Index.{ShortModel};
 
-use buffer::word;
-use decode_layout::process_kind;
+use decode_layout::process_kind::ProcessKind;
 use index_process::index;
-use state_head::count::Counted;
 use state_head::head::Head;
 use state_head::{count, head};
 use state_progress::progress::Progress;
@@ -23,7 +21,7 @@ use state_traversal::traverse;
 
 // The process at a position, with so many nodes left on its path, under the messages that are bound up to the position end. Copies open at
 // the private name opens.
-#[cycle(both_build_copy_enter_inside_node_repl)]
+#[cycle(building)]
 pub fn build(
     s: &[u8],
     argument: &[u8],
@@ -47,16 +45,14 @@ pub fn build(
         return done;
     }
     let names = done.names;
-    let head = head::descend(s, at, left, m, end, names);
-    let there = head.going;
-    if there {
-        return node(s, argument, head, m, plan, opens, out, done);
-    }
-    progress::stop(done)
+    let Some(head) = head::descend(s, at, left, m, end, names) else {
+        return progress::stop(done);
+    };
+    node(s, argument, head, m, plan, opens, out, done)
 }
 
 // The same at the head of a process, where a node is left for it, and room to work terms.
-#[cycle(both_build_copy_enter_inside_node_repl)]
+#[cycle(building)]
 fn node(
     s: &[u8],
     argument: &[u8],
@@ -76,21 +72,16 @@ fn node(
     let end = head.end;
     let names = head.names;
     let done = progress::named(done, names);
-    let kind = word::wide(s[at]);
-    if kind == process_kind::NIL {
-        return done;
+    match ProcessKind::try_from(s[at]) {
+        Ok(ProcessKind::Nil) => done,
+        Ok(ProcessKind::Par) => both(s, argument, at, left, m, end, plan, opens, out, done),
+        Ok(ProcessKind::Repl) => repl(s, argument, at, left, m, end, plan, opens, out, done),
+        _ => traverse::act(s, argument, at, left, m, end, plan, out, done),
     }
-    if kind == process_kind::PAR {
-        return both(s, argument, at, left, m, end, plan, opens, out, done);
-    }
-    if kind == process_kind::REPL {
-        return repl(s, argument, at, left, m, end, plan, opens, out, done);
-    }
-    traverse::act(s, argument, at, left, m, end, plan, out, done)
 }
 
 // Par: the first side, and then the second.
-#[cycle(both_build_copy_enter_inside_node_repl)]
+#[cycle(building)]
 fn both(
     s: &[u8],
     argument: &[u8],
@@ -134,7 +125,7 @@ fn both(
 }
 
 // Repl: what is left of its copy, and then the thread itself.
-#[cycle(both_build_copy_enter_inside_node_repl)]
+#[cycle(building)]
 fn repl(
     s: &[u8],
     argument: &[u8],
@@ -157,7 +148,7 @@ fn repl(
 
 // What is left of the copy that has the sender or the taker in it, if there is one. The one that has the taker alone in it opens after the
 // sender's, if there is a sender.
-#[cycle(both_build_copy_enter_inside_node_repl)]
+#[cycle(building)]
 fn enter(
     s: &[u8],
     argument: &[u8],
@@ -194,7 +185,7 @@ fn enter(
 
 // A copy of the repl thread at a position, opened at the private name start: its names are counted, since copies inside it open after them,
 // and then its threads are written. The names are given back.
-#[cycle(both_build_copy_enter_inside_node_repl)]
+#[cycle(building)]
 fn copy(
     s: &[u8],
     argument: &[u8],
@@ -213,26 +204,26 @@ fn copy(
     ensures opens { Opens (Build plan opens) start s.now argument.now at left m.old end out.old done result out.new }
 {
     let before = done.names;
-    match count::count(s, at + 1, left - 1, m, end, start) {
-        Counted::Names(inner) => inside(
-            s,
-            argument,
-            at + 1,
-            left - 1,
-            m,
-            end,
-            plan,
-            inner,
-            out,
-            progress::named(done, start),
-            before,
-        ),
-        Counted::OverLimit => progress::stop(done),
-    }
+    let Some(inner) = count::count(s, at + 1, left - 1, m, end, start) else {
+        return progress::stop(done);
+    };
+    inside(
+        s,
+        argument,
+        at + 1,
+        left - 1,
+        m,
+        end,
+        plan,
+        inner,
+        out,
+        progress::named(done, start),
+        before,
+    )
 }
 
 // The traversal of a process, after which the next private name is the one from before.
-#[cycle(both_build_copy_enter_inside_node_repl)]
+#[cycle(building)]
 fn inside(
     s: &[u8],
     argument: &[u8],

@@ -1,5 +1,5 @@
 -- The head of a process: what settling comes to below every new, if and let, of which only names and messages are left ("Steps").
-use Rattle.std.specs.Prelude.{◌≡◌, Bool, true, false, List, ◌⊎◌, ℕ, ◌+◌, ◌*◌, ◌≤◌, ◌<◌, length, get_or}
+use Rattle.std.specs.Prelude.{◌≡◌, Bool, true, false, Option, Some, None, List, ◌⊎◌, ℕ, ◌+◌, ◌*◌, ◌≤◌, ◌<◌, length, get_or}
 use Rattle.meaning.specs.Messages.Term.{Message}
 use Rattle.meaning.specs.Bytes.Process.{Process}
 use Rattle.meaning.specs.Bytes.Nesting.{variables}
@@ -46,46 +46,36 @@ pub record HasHead (s : List ℕ) (P : Process) (at : ℕ) (ρ : Bound) (n : ℕ
   pub traverses : SameTraversal P at ρ n process h.at bound h.names
 
 -- Whatever process stands there, that is so.
-pub record Descends (s : List ℕ) (at left : ℕ) (m : List ℕ) (end n : ℕ) (h : Head) (after : List ℕ) : Type 0 where
-  pub over : h.going ≡ false → (P : Process) (ρ : Bound) → CanSettle s at left m end n P ρ → MeetsLimit P at ρ n
-  pub head : h.going ≡ true → (P : Process) (ρ : Bound) → CanSettle s at left m end n P ρ → HasHead s P at ρ n h after
+pub record Descends (s : List ℕ) (at left : ℕ) (m : List ℕ) (end n : ℕ) (r : Option Head) (after : List ℕ) : Type 0 where
+  pub over : r ≡ None → (P : Process) (ρ : Bound) → CanSettle s at left m end n P ρ → MeetsLimit P at ρ n
+  pub head : (h : Head) → r ≡ Some h → (P : Process) (ρ : Bound) → CanSettle s at left m end n P ρ → HasHead s P at ρ n h after
 
 -- The same, if that process is of a kind.
-pub record DescendsIf (kind : ℕ) (s : List ℕ) (at left : ℕ) (m : List ℕ) (end n : ℕ) (h : Head) (after : List ℕ) : Type 0 where
-  pub exact : get_or s at 0 ≡ kind → Descends s at left m end n h after
+pub record DescendsIf (kind : ℕ) (s : List ℕ) (at left : ℕ) (m : List ℕ) (end n : ℕ) (r : Option Head) (after : List ℕ) : Type 0 where
+  pub exact : get_or s at 0 ≡ kind → Descends s at left m end n r after
 
 -- The kinds new, if and let; and the way down from a head of one of them.
 abbrev pub Passing : ℕ → Type 0
 Passing kind = (kind ≡ 1) ⊎ ((kind ≡ 4) ⊎ (kind ≡ 5))
 
-pub record DescendsFrom (f : Head) (s m : List ℕ) (h : Head) (after : List ℕ) : Type 0 where
-  pub exact : Passing (get_or s f.at 0) → Descends s f.at f.left m f.end f.names h after
+pub record DescendsFrom (f : Head) (s m : List ℕ) (r : Option Head) (after : List ℕ) : Type 0 where
+  pub exact : Passing (get_or s f.at 0) → Descends s f.at f.left m f.end f.names r after
 
 -- Whether the head is of these kinds.
 pub record IsPassed (s : List ℕ) (h : Head) (r : Bool) : Type 0 where
-  pub on : r ≡ true → h.going ≡ true
   pub some : r ≡ true → Passing (get_or s h.at 0)
-  pub none : r ≡ false → h.going ≡ true → Passing (get_or s h.at 0) → ⊥
+  pub none : r ≡ false → Passing (get_or s h.at 0) → ⊥
 
 -- The head is of another kind.
 pub record Settled (s : List ℕ) (h : Head) : Type 0 where
-  pub other : h.going ≡ true → Passing (get_or s h.at 0) → ⊥
+  pub other : Passing (get_or s h.at 0) → ⊥
 
--- Where no limit was met, a byte stands at the head, a node is left for it, and room to work terms in so many bytes.
-pub record HasByte (s : List ℕ) (h : Head) : Type 0 where
-  pub there : h.going ≡ true → h.at < length s
-
+-- A byte stands at the head, a node is left for it, and there is room to work terms in so many bytes.
 pub record HasRoom (s : List ℕ) (size : ℕ) (h : Head) : Type 0 where
-  pub node : h.going ≡ true → 1 ≤ h.left
-  pub byte : HasByte s h
-  pub room : h.going ≡ true → h.end + 4606 ≤ size
+  pub node : 1 ≤ h.left
+  pub byte : h.at < length s
+  pub room : h.end + 4606 ≤ size
 
 -- A limit was met; or the head is the process at a position itself, if there is room.
-pub record StopsAt (end : ℕ) (h : Head) : Type 0 where
-  pub off : h.going ≡ false
-  pub none : h.left ≡ 0
-  pub last : h.end ≡ end
-
-pub record Arrives (s : List ℕ) (at left size end n : ℕ) (h : Head) : Type 0 where
-  pub descends : (m : List ℕ) → length m ≡ size → Descends s at left m end n h m
-  pub room : HasRoom s size h
+pub record Arrives (s : List ℕ) (at left size end n : ℕ) (r : Option Head) : Type 0 where
+  pub descends : (m : List ℕ) → length m ≡ size → Descends s at left m end n r m

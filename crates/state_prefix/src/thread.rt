@@ -6,7 +6,8 @@ ghost use Rattle.state_task.specs.Thread.{Judges, Offers, Settles, Agrees, Hands
 ghost use Rattle.state_task.specs.Machine.{eligible};
 ghost use Rattle.index_process.specs.Index.{ShortModel};
 
-use buffer::{slice, word};
+use buffer::slice;
+use decode_layout::process_kind::ProcessKind;
 use decode_layout::{ends, process_kind};
 use message_bytes::run;
 use message_term::work;
@@ -24,8 +25,8 @@ fn judge(s: &[u8], at: usize, m: &mut [u8], end: usize, done: Progress) -> Progr
     ensures judges { Judges s.now at m.old end done result }
 {
     match work::term(s, at, m, 0, end) {
-        Worked::Done(_, _) => done,
-        Worked::TooLarge => progress::stop(done),
+        Some(_) => done,
+        None => progress::stop(done),
     }
 }
 
@@ -37,10 +38,10 @@ pub fn offer(s: &[u8], at: usize, m: &mut [u8], end: usize, done: Progress) -> P
     ensures offers { Offers s.now at m.old end done result }
 {
     let channel = judge(s, at + 1, m, end, done);
-    if word::wide(s[at]) == process_kind::INPUT {
-        return channel;
+    match ProcessKind::try_from(s[at]) {
+        Ok(ProcessKind::Input) => channel,
+        _ => judge(s, ends::term(s, at + 1), m, end, channel),
     }
-    judge(s, ends::term(s, at + 1), m, end, channel)
 }
 
 // The thread at a position, written and judged.
@@ -87,10 +88,7 @@ pub fn meant(quest: Quest, at: usize, kind: usize) -> bool
 fn agrees(any: bool, channel: &[u8], argument: &[u8]) -> bool
     ensures { Agrees any channel.now argument.now result }
 {
-    if any {
-        return true;
-    }
-    run::compare(channel, argument)
+    any || run::compare(channel, argument)
 }
 
 // The messages of the output at a position, which stand in the bytes m, handed over.
@@ -118,16 +116,12 @@ fn send(
     }
     slice::put(&m[from..to], out, last);
     let further = State {
-        aliases: state.aliases,
-        start: state.start,
         end: last + (to - from),
-        threads: state.threads,
-        nodes: state.nodes,
-        names: state.names,
+        ..state
     };
     Progress {
         going: false,
-        names: names,
+        names,
         mark: at + 1,
         sent: last,
         state: further,
@@ -152,12 +146,12 @@ fn handed(
     ensures written_from_2 { WrittenFrom done.state.end out.old out.new }
     ensures hands { Hands s.now at next m.old end last names out.old done result out.new }
 {
-    if word::wide(s[at]) == process_kind::INPUT {
-        return progress::hit(done, at, names);
-    }
-    match work::term(s, next, m, 0, last) {
-        Worked::Done(_, top) => send(m, end, top, at, names, out, done),
-        Worked::TooLarge => progress::stop(done),
+    match ProcessKind::try_from(s[at]) {
+        Ok(ProcessKind::Input) => progress::hit(done, at, names),
+        _ => match work::term(s, next, m, 0, last) {
+            Some(message) => send(m, end, message.end, at, names, out, done),
+            None => progress::stop(done),
+        },
     }
 }
 
@@ -179,15 +173,13 @@ fn channel(
     ensures written_from_2 { WrittenFrom done.state.end out.old out.new }
     ensures channels { Channels s.now argument.now at m.old end any names out.old done result out.new }
 {
-    match work::term(s, at + 1, m, 0, end) {
-        Worked::Done(next, last) => {
-            if agrees(any, &m[end..last], argument) {
-                return handed(s, at, next, m, end, last, names, out, done);
-            }
-            done
-        }
-        Worked::TooLarge => progress::stop(done),
+    let Some(Worked { next, end: last }) = work::term(s, at + 1, m, 0, end) else {
+        return progress::stop(done);
+    };
+    if agrees(any, &m[end..last], argument) {
+        return handed(s, at, next, m, end, last, names, out, done);
     }
+    done
 }
 
 // The offer at a position, if it is the one that is looked for.
@@ -209,7 +201,7 @@ pub fn seek(
     ensures seeks { Seeks s.now argument.now at m.old end quest names out.old done result out.new }
 {
     let any = quest.any;
-    if meant(quest, at, word::wide(s[at])) {
+    if meant(quest, at, usize::from(s[at])) {
         return channel(s, argument, at, m, end, any, names, out, done);
     }
     done

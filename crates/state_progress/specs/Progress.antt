@@ -36,4 +36,5 @@ pub record Renamed (now : Progress) (n : ℕ) (r : Progress) : Type 0 where
 pub record Begins (at k : ℕ) (r : Progress) : Type 0 where
   pub on : r.going ≡ true
   pub next : r.names ≡ k
+  pub mark : r.mark ≡ 0
   pub state : r.state ≡ fresh_state at at 0

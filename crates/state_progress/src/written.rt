@@ -6,7 +6,6 @@ ghost use Rattle.state_progress.specs.Written.{Pushes, Keeps};
 
 use crate::progress;
 use crate::progress::Progress;
-use state_record::state::Grown;
 use state_record::{record, state};
 
 // The thread whose process stands at the position place, written into the state.
@@ -18,18 +17,16 @@ pub fn push(m: &[u8], end: usize, place: usize, out: &mut [u8], done: Progress) 
 {
     let state = done.state;
     let last = state.end;
-    match state::grow(state, record::nodes(&m[0..end]), end, out.len()) {
-        Grown::To(further) => {
-            record::write(&m[0..end], place, out, last);
-            Progress {
-                going: true,
-                names: done.names,
-                mark: 0,
-                sent: 0,
-                state: further,
-            }
-        }
-        Grown::Full => progress::stop(done),
+    let Some(further) = state::grow(state, record::nodes(&m[0..end]), end, out.len()) else {
+        return progress::stop(done);
+    };
+    record::write(&m[0..end], place, out, last);
+    Progress {
+        going: true,
+        names: done.names,
+        mark: 0,
+        sent: 0,
+        state: further,
     }
 }
 

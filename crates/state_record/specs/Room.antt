@@ -1,8 +1,6 @@
 -- Whether a state has room for one thread more ("Judging and its count": 32 threads, 1,024 nodes).
-use Rattle.std.specs.Prelude.{◌≡◌, ℕ, ◌+◌, ◌≤◌, ◌<◌}
+use Rattle.std.specs.Prelude.{◌≡◌, Option, Some, None, ℕ, ◌+◌, ◌≤◌, ◌<◌}
 use Rattle.state_record.specs.declared.state.State.{State}
-use Rattle.state_record.specs.declared.state.Grown.{Grown}
-use Rattle.state_record.specs.declared.state.Grown.TheVariants.{To, Full}
 
 -- A state without threads and names.
 abbrev pub fresh_state : (aliases start nodes : ℕ) → State
@@ -17,9 +15,9 @@ pub record RoomForThread (st : State) (nodes size long : ℕ) : Type 0 where
   pub bytes : st.end + 4 + size ≤ long
 
 -- The state with that thread, the record being written at its end; or none.
-pub record Grows (st : State) (nodes size long : ℕ) (r : Grown) : Type 0 where
-  pub room : (f : State) → r ≡ To f → RoomForThread st nodes size long
-  pub state : (f : State) → r ≡ To f
+pub record Grows (st : State) (nodes size long : ℕ) (r : Option State) : Type 0 where
+  pub room : (f : State) → r ≡ Some f → RoomForThread st nodes size long
+  pub state : (f : State) → r ≡ Some f
       → f ≡ record {
         aliases = st.aliases;
         start = st.start;
@@ -28,4 +26,4 @@ pub record Grows (st : State) (nodes size long : ℕ) (r : Grown) : Type 0 where
         nodes = st.nodes + nodes;
         names = st.names;
       }
-  pub none : r ≡ Full → RoomForThread st nodes size long → ⊥
+  pub none : r ≡ None → RoomForThread st nodes size long → ⊥

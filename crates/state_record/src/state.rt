@@ -30,51 +30,43 @@ impl State {
         ensures { result ≡ fresh_state aliases start nodes }
     {
         State {
-            aliases: aliases,
-            start: start,
+            aliases,
+            start,
             end: start,
             threads: 0,
-            nodes: nodes,
+            nodes,
             names: 0,
         }
     }
 }
 
-// A state with one thread more, or none where that would be over a limit.
-#[derive(Clone, Copy)]
-pub enum Grown {
-    To(State),
-    Full,
-}
-
-// The state with the record of one thread more, whose messages have so many nodes and take so many bytes, in work bytes of a length.
-pub fn grow(state: State, nodes: usize, size: usize, long: usize) -> Grown
+// The state with the record of one thread more, whose messages have so many nodes and take so many bytes, in work bytes of a length; none
+// where that would be over a limit.
+pub fn grow(state: State, nodes: usize, size: usize, long: usize) -> Option<State>
     ensures { Grows state nodes size long result }
 {
     if State::THREADS <= state.threads {
-        return Grown::Full;
+        return None;
     }
     if State::NODES < state.nodes {
-        return Grown::Full;
+        return None;
     }
     if State::NODES - state.nodes < nodes {
-        return Grown::Full;
+        return None;
     }
     if State::BOUND < size {
-        return Grown::Full;
+        return None;
     }
     if long < state.end {
-        return Grown::Full;
+        return None;
     }
     if long - state.end < 4 + size {
-        return Grown::Full;
+        return None;
     }
-    Grown::To(State {
-        aliases: state.aliases,
-        start: state.start,
+    Some(State {
         end: state.end + 4 + size,
         threads: state.threads + 1,
         nodes: state.nodes + nodes,
-        names: state.names,
+        ..state
     })
 }

@@ -33,21 +33,21 @@ pub fn load(out: &[u8], at: usize, m: &mut [u8]) -> Loaded
     let size = word::number(out, at + 2);
     if m.len() < size {
         return Loaded {
-            place: place,
+            place,
             end: 0,
             next: at,
         };
     }
     if out.len() - at < 4 + size {
         return Loaded {
-            place: place,
+            place,
             end: 0,
             next: at,
         };
     }
     fetch(&out[at + 4..at + 4 + size], m);
     Loaded {
-        place: place,
+        place,
         end: size,
         next: at + 4 + size,
     }

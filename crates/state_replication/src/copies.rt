@@ -29,7 +29,7 @@ fn judge(own: Own, names: usize) -> Copies
     ensures { result ≡ judging own names }
 {
     Copies {
-        own: own,
+        own,
         first: Opening::Copy(Task::Judge(names), names),
         second: Opening::None,
     }
@@ -87,13 +87,7 @@ fn passes(s: &[u8], at: usize, mark: usize, past: bool) -> bool
     if at + 1 == mark {
         return past;
     }
-    if at + 1 < mark {
-        if place::contains(s, at + 1, mark) {
-            return false;
-        }
-        return true;
-    }
-    false
+    at + 1 < mark && !place::contains(s, at + 1, mark)
 }
 
 // The next repl thread after a mark, or the one at it: those in its copy first, and then itself.

@@ -7,10 +7,9 @@ ghost use Rattle.state_search.specs.Seek.{begun_at, reached, GivesBack, Comes, S
 ghost use Rattle.state_head.specs.Head.{RoomAtNode, BoundFits};
 ghost use Rattle.index_process.specs.Index.{ShortModel};
 
-use buffer::word;
-use decode_layout::process_kind;
+use decode_layout::process_kind::ProcessKind;
 use index_process::index;
-use state_head::count::Counted;
+use state_head::head::Head;
 use state_head::{count, head};
 use state_prefix::thread;
 use state_progress::progress::Progress;
@@ -34,20 +33,20 @@ pub fn progress(sought: Sought, to: usize) -> Progress
     match sought {
         Sought::On(names) => Progress {
             going: true,
-            names: names,
+            names,
             mark: 0,
             sent: 0,
             state: State::fresh(to, to, 0),
         },
         Sought::Ended(names, mark, sent, end) => Progress {
             going: false,
-            names: names,
-            mark: mark,
-            sent: sent,
+            names,
+            mark,
+            sent,
             state: State {
                 aliases: to,
                 start: to,
-                end: end,
+                end,
                 threads: 0,
                 nodes: 0,
                 names: 0,
@@ -96,7 +95,7 @@ fn own(
     ensures written_from_2 { WrittenFrom to out.old out.new }
     ensures seeks { Seeks s.now argument.now at m.old end quest opens out.old (begun_at to names) (reached to result) out.new }
 {
-    if thread::meant(quest, at, word::wide(s[at])) {
+    if thread::meant(quest, at, usize::from(s[at])) {
         let begun = progress(Sought::On(names), to);
         return numbers(
             thread::seek(s, argument, at, m, end, quest, opens, out, begun),
@@ -108,7 +107,7 @@ fn own(
 
 // The process at a position, with so many nodes left on its path, under the messages that are bound up to the position end, with the next
 // private name names: copies open at the private name opens, and messages are handed over from the position to on.
-#[cycle(both_copy_repl_seek)]
+#[cycle(seeking)]
 pub fn seek(
     s: &[u8],
     argument: &[u8],
@@ -127,30 +126,25 @@ pub fn seek(
     ensures written_from_2 { WrittenFrom to out.old out.new }
     ensures seek_traverses { SeekTraverses s.now argument.now at left m.old end quest names opens to out.old result out.new }
 {
-    let head = head::descend(s, at, left, m, end, names);
-    let going = head.going;
-    let at = head.at;
-    let left = head.left;
-    let end = head.end;
-    let names = head.names;
-    if going {
-        let kind = word::wide(s[at]);
-        if kind == process_kind::NIL {
-            return Sought::On(names);
-        }
-        if kind == process_kind::PAR {
-            return both(s, argument, at, left, m, end, quest, names, opens, to, out);
-        }
-        if kind == process_kind::REPL {
-            return repl(s, argument, at, left, m, end, quest, names, opens, to, out);
-        }
-        return own(s, argument, at, m, end, quest, names, opens, to, out);
+    let Some(head) = head::descend(s, at, left, m, end, names) else {
+        return Sought::Ended(0, 0, 0, to);
+    };
+    let Head {
+        at,
+        left,
+        end,
+        names,
+    } = head;
+    match ProcessKind::try_from(s[at]) {
+        Ok(ProcessKind::Nil) => Sought::On(names),
+        Ok(ProcessKind::Par) => both(s, argument, at, left, m, end, quest, names, opens, to, out),
+        Ok(ProcessKind::Repl) => repl(s, argument, at, left, m, end, quest, names, opens, to, out),
+        _ => own(s, argument, at, m, end, quest, names, opens, to, out),
     }
-    Sought::Ended(names, 0, 0, to)
 }
 
 // Par: the first side, and then the second.
-#[cycle(both_copy_repl_seek)]
+#[cycle(seeking)]
 fn both(
     s: &[u8],
     argument: &[u8],
@@ -201,7 +195,7 @@ fn both(
 }
 
 // Repl: a thread, of which a copy is opened, if it does not have the mark in it that the quest leaves out.
-#[cycle(both_copy_repl_seek)]
+#[cycle(seeking)]
 fn repl(
     s: &[u8],
     argument: &[u8],
@@ -228,7 +222,7 @@ fn repl(
 
 // A copy of the repl thread at a position: its names are counted, since copies inside it open after them, and then the offer is sought in it.
 // The names are given back.
-#[cycle(both_copy_repl_seek)]
+#[cycle(seeking)]
 fn copy(
     s: &[u8],
     argument: &[u8],
@@ -247,23 +241,23 @@ fn copy(
     ensures written_from_2 { WrittenFrom to out.old out.new }
     ensures seek_opens { SeekOpens s.now argument.now at left m.old end quest names opens to out.old result out.new }
 {
-    match count::count(s, at + 1, left - 1, m, end, opens) {
-        Counted::Names(inner) => named(
-            seek(
-                s,
-                argument,
-                at + 1,
-                left - 1,
-                m,
-                end,
-                quest,
-                opens,
-                inner,
-                to,
-                out,
-            ),
-            names,
+    let Some(inner) = count::count(s, at + 1, left - 1, m, end, opens) else {
+        return Sought::Ended(names, 0, 0, to);
+    };
+    named(
+        seek(
+            s,
+            argument,
+            at + 1,
+            left - 1,
+            m,
+            end,
+            quest,
+            opens,
+            inner,
+            to,
+            out,
         ),
-        Counted::OverLimit => Sought::Ended(names, 0, 0, to),
-    }
+        names,
+    )
 }

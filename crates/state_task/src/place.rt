@@ -2,8 +2,8 @@
 ghost use Rattle.std.specs.Prelude.{◌<◌, length};
 ghost use Rattle.state_task.specs.Place.{Chosen, Contains, Rests};
 
-use buffer::word;
-use decode_layout::{ends, process_kind};
+use decode_layout::ends;
+use decode_layout::process_kind::ProcessKind;
 use index_process::index;
 
 // The branch that an if takes: the first process behind its terms, or the second.
@@ -20,13 +20,7 @@ pub fn chosen(s: &[u8], at: usize, same: bool) -> usize
 pub fn contains(s: &[u8], at: usize, mark: usize) -> bool
     ensures { Contains s.now at mark result }
 {
-    if mark <= at {
-        return false;
-    }
-    if mark <= index::end(s, at) {
-        return true;
-    }
-    false
+    at < mark && mark <= index::end(s, at)
 }
 
 // Where the process stands that follows the thread at a position.
@@ -34,8 +28,8 @@ pub fn rest(s: &[u8], at: usize) -> usize
     requires { at < length s.now }
     ensures { Rests s.now at result }
 {
-    if word::wide(s[at]) == process_kind::OUTPUT {
-        return ends::terms(s, at + 1, 2);
+    match ProcessKind::try_from(s[at]) {
+        Ok(ProcessKind::Output) => ends::terms(s, at + 1, 2),
+        _ => ends::terms(s, at + 1, 1),
     }
-    ends::terms(s, at + 1, 1)
 }

@@ -13,6 +13,9 @@ pub struct Quest {
     pub excluded: usize,
 }
 
+// The argument of a traversal that asks for no message in particular: the run of the public name 0.
+pub const ANY: [u8; 2] = [16, 0];
+
 // A repl thread, by its mark, and how many of its copies take part in the step so far, which says where an offer is sought: in the first copy
 // (0), in the same copy once more (1), or in a second one (2), which opens at a private name, as copies inside the same one do.
 #[derive(Clone, Copy)]
@@ -74,23 +77,11 @@ pub fn opening(task: Task, names: usize) -> Task
 pub fn sending(plan: Plan) -> Plan
     ensures { result ≡ sending plan }
 {
-    Plan {
-        sender: plan.sender,
-        taker: 0,
-        second: plan.second,
-        rest: plan.rest,
-        last: plan.last,
-    }
+    Plan { taker: 0, ..plan }
 }
 
 pub fn taking(plan: Plan) -> Plan
     ensures { result ≡ taking plan }
 {
-    Plan {
-        sender: 0,
-        taker: plan.taker,
-        second: plan.second,
-        rest: plan.rest,
-        last: plan.last,
-    }
+    Plan { sender: 0, ..plan }
 }

@@ -7,12 +7,10 @@ ghost use Rattle.state_progress.specs.Progress.{Extends};
 ghost use Rattle.state_head.specs.Head.{RoomAtNode, BoundFits};
 ghost use Rattle.index_process.specs.Index.{ShortModel};
 
-use buffer::word;
-use decode_layout::process_kind;
+use decode_layout::process_kind::ProcessKind;
 use index_process::index;
 use message_binding::bind;
 use message_bytes::run;
-use state_head::count::Counted;
 use state_head::head::Head;
 use state_head::{count, head};
 use state_prefix::thread;
@@ -25,7 +23,7 @@ use state_task::{place, task};
 
 // The process at a position, with so many nodes left on its path, under the messages that are bound up to the position end. The argument is
 // the run of a message: the channel on which an offer is sought, or the message that a taker binds.
-#[cycle(act_both_copy_enter_follow_inside_node_pair_perform_prefix_receive_repl_traverse)]
+#[cycle(traversing)]
 pub fn traverse(
     s: &[u8],
     argument: &[u8],
@@ -48,16 +46,14 @@ pub fn traverse(
         return done;
     }
     let names = done.names;
-    let head = head::descend(s, at, left, m, end, names);
-    let there = head.going;
-    if there {
-        return node(s, argument, head, m, task, out, done);
-    }
-    progress::stop(done)
+    let Some(head) = head::descend(s, at, left, m, end, names) else {
+        return progress::stop(done);
+    };
+    node(s, argument, head, m, task, out, done)
 }
 
 // The same at the head of a process, where a node is left for it, and room to work terms.
-#[cycle(act_both_copy_enter_follow_inside_node_pair_perform_prefix_receive_repl_traverse)]
+#[cycle(traversing)]
 fn node(
     s: &[u8],
     argument: &[u8],
@@ -76,21 +72,16 @@ fn node(
     let end = head.end;
     let names = head.names;
     let done = progress::named(done, names);
-    let kind = word::wide(s[at]);
-    if kind == process_kind::NIL {
-        return done;
+    match ProcessKind::try_from(s[at]) {
+        Ok(ProcessKind::Nil) => done,
+        Ok(ProcessKind::Par) => both(s, argument, at, left, m, end, task, out, done),
+        Ok(ProcessKind::Repl) => repl(s, argument, at, left, m, end, task, out, done),
+        _ => prefix(s, argument, at, left, m, end, task, out, done),
     }
-    if kind == process_kind::PAR {
-        return both(s, argument, at, left, m, end, task, out, done);
-    }
-    if kind == process_kind::REPL {
-        return repl(s, argument, at, left, m, end, task, out, done);
-    }
-    prefix(s, argument, at, left, m, end, task, out, done)
 }
 
 // Par: the first side, and then the second.
-#[cycle(act_both_copy_enter_follow_inside_node_pair_perform_prefix_receive_repl_traverse)]
+#[cycle(traversing)]
 fn both(
     s: &[u8],
     argument: &[u8],
@@ -121,7 +112,7 @@ fn both(
 }
 
 // A thread that acts by itself.
-#[cycle(act_both_copy_enter_follow_inside_node_pair_perform_prefix_receive_repl_traverse)]
+#[cycle(traversing)]
 fn prefix(
     s: &[u8],
     argument: &[u8],
@@ -150,7 +141,7 @@ fn prefix(
 }
 
 // A thread that acts by itself, as a step leaves it: what follows the sender or the taker is settled in its place.
-#[cycle(act_both_copy_enter_follow_inside_node_pair_perform_prefix_receive_repl_traverse)]
+#[cycle(traversing)]
 pub fn act(
     s: &[u8],
     argument: &[u8],
@@ -180,7 +171,7 @@ pub fn act(
 }
 
 // What follows the thread at a position, settled at a private name.
-#[cycle(act_both_copy_enter_follow_inside_node_pair_perform_prefix_receive_repl_traverse)]
+#[cycle(traversing)]
 fn follow(
     s: &[u8],
     argument: &[u8],
@@ -212,7 +203,7 @@ fn follow(
 }
 
 // The same under the argument too, which is the message that is taken.
-#[cycle(act_both_copy_enter_follow_inside_node_pair_perform_prefix_receive_repl_traverse)]
+#[cycle(traversing)]
 fn receive(
     s: &[u8],
     argument: &[u8],
@@ -236,7 +227,7 @@ fn receive(
 }
 
 // Repl: a thread, of which copies are opened as the task needs them.
-#[cycle(act_both_copy_enter_follow_inside_node_pair_perform_prefix_receive_repl_traverse)]
+#[cycle(traversing)]
 fn repl(
     s: &[u8],
     argument: &[u8],
@@ -260,7 +251,7 @@ fn repl(
 }
 
 // Its copies, and then the thread itself.
-#[cycle(act_both_copy_enter_follow_inside_node_pair_perform_prefix_receive_repl_traverse)]
+#[cycle(traversing)]
 fn perform(
     s: &[u8],
     argument: &[u8],
@@ -282,7 +273,7 @@ fn perform(
 }
 
 // The first copy, and then the second.
-#[cycle(act_both_copy_enter_follow_inside_node_pair_perform_prefix_receive_repl_traverse)]
+#[cycle(traversing)]
 fn pair(
     s: &[u8],
     argument: &[u8],
@@ -305,7 +296,7 @@ fn pair(
 }
 
 // A copy, if there is one and the traversal still goes on.
-#[cycle(act_both_copy_enter_follow_inside_node_pair_perform_prefix_receive_repl_traverse)]
+#[cycle(traversing)]
 fn enter(
     s: &[u8],
     argument: &[u8],
@@ -348,7 +339,7 @@ fn enter(
 
 // A copy of the repl thread at a position, opened at a private name: its names are counted, since copies inside it open after them, and
 // then the task is done in it. The names are given back.
-#[cycle(act_both_copy_enter_follow_inside_node_pair_perform_prefix_receive_repl_traverse)]
+#[cycle(traversing)]
 fn copy(
     s: &[u8],
     argument: &[u8],
@@ -366,25 +357,25 @@ fn copy(
     ensures opens { Opens task opens s.now argument.now at left m.old end out.old done result out.new }
 {
     let before = done.names;
-    match count::count(s, at + 1, left - 1, m, end, opens) {
-        Counted::Names(names) => inside(
-            s,
-            argument,
-            at + 1,
-            left - 1,
-            m,
-            end,
-            task::opening(task, names),
-            out,
-            progress::named(done, opens),
-            before,
-        ),
-        Counted::OverLimit => progress::stop(done),
-    }
+    let Some(names) = count::count(s, at + 1, left - 1, m, end, opens) else {
+        return progress::stop(done);
+    };
+    inside(
+        s,
+        argument,
+        at + 1,
+        left - 1,
+        m,
+        end,
+        task::opening(task, names),
+        out,
+        progress::named(done, opens),
+        before,
+    )
 }
 
 // The traversal of a process, after which the next private name is the one from before.
-#[cycle(act_both_copy_enter_follow_inside_node_pair_perform_prefix_receive_repl_traverse)]
+#[cycle(traversing)]
 fn inside(
     s: &[u8],
     argument: &[u8],

@@ -1,5 +1,5 @@
 -- Silent steps of two threads: the next pair of a sender and a taker ("Steps").
-use Rattle.std.specs.Prelude.{◌≡◌, Bool, true, false, ℕ, ◌+◌, ◌≤◌, ◌<◌, length}
+use Rattle.std.specs.Prelude.{◌≡◌, Bool, true, false, Option, ℕ, ◌+◌, ◌≤◌, ◌<◌, length}
 use mathlib.Core.List.{List, [], ◌∷◌, ◌++◌, map, flat_map}
 use Rattle.meaning.specs.Messages.Term.{leaf, public, Message}
 use Rattle.meaning.specs.Steps.State.{worked}
@@ -21,7 +21,7 @@ use Rattle.step_transition.specs.Step.{actor}
 use Rattle.step_label.specs.declared.step.Actor.{Actor}
 use Rattle.step_between.specs.Buffered.{Buffered, Answered}
 use Rattle.step_offer.specs.declared.seek.Sighting.{Sighting}
-use Rattle.step_label.specs.declared.step.Next.{Next}
+use Rattle.step_label.specs.declared.step.Step.{Step}
 
 -- A thread of a state, and one of its offers.
 pub record Party : Type 0 where
@@ -76,7 +76,8 @@ pub record NextSender (s : List ℕ) (at k to : ℕ) (m : List ℕ) (x : ℕ) (o
 
 -- One sender of the threads ts, and its takers among ts' from y on; all threads are ps. The label is the sender's channel, and it stands at
 -- the front of a slice; what it sends takes so many bytes and stands at the front of another.
-pub record Takes (s argument : List ℕ) (to : ℕ) (m : List ℕ) (now : Actor) (taker y : ℕ) (out : List ℕ) (size : ℕ) (r : Next) : Type 0 where
+pub record Takes (s argument : List ℕ) (to : ℕ) (m : List ℕ) (now : Actor) (taker y : ℕ) (out : List ℕ) (size : ℕ)
+    (r : Option Step) : Type 0 where
   pub exact : (start k x : ℕ) (ps ls ts ls' ts' : List Placed) (w : Party) (others : List Party) (channel said message : List ℕ)
       → Threads s out start k ps to → Roomy s out m message k to → ps ≡ ls ++ ts → ps ≡ ls' ++ ts'
       → taker ≡ start + length (encode_records ls') → senders_from k x (focuses_from ls ts) ≡ w ∷ others
@@ -85,25 +86,26 @@ pub record Takes (s argument : List ℕ) (to : ℕ) (m : List ℕ) (now : Actor)
       → ((u : Party) → Buffered channel said (meeting_of w u)) → Answered start channel said r (takers_from w y (focuses_from ls' ts'))
 
 -- A sender that was found, and all its takers: channel and message are copied from behind the state to two slices.
-pub record Pairs (s : List ℕ) (start to : ℕ) (m : List ℕ) (now : Sighting) (out channel message : List ℕ) (r : Next) (on said : List ℕ) : Type 0 where
+pub record Pairs (s : List ℕ) (start to : ℕ) (m : List ℕ) (now : Sighting) (out channel message : List ℕ) (r : Option Step)
+    (on said : List ℕ) : Type 0 where
   pub exact : (k x : ℕ) (ps ls ts : List Placed) (w : Party) (others : List Party) → Threads s out start k ps to
       → Roomy s out m message k to → 510 ≤ length channel → ps ≡ ls ++ ts → senders_from k x (focuses_from ls ts) ≡ w ∷ others
       → Sees out now (record_at start w.focus) w.offer → Answered start on said r (takers_from w 0 (focuses ps))
 
 -- The same, and then the senders after it with all their takers.
-pub record NextMeeting (s : List ℕ) (start k to : ℕ) (m : List ℕ) (now : Sighting) (out channel message : List ℕ) (r : Next) (on said : List ℕ) : Type 0
-  where
-    pub exact : (x : ℕ) (ps ls ts : List Placed) (w : Party) (others : List Party) → Threads s out start k ps to
-        → Roomy s out m message k to → 510 ≤ length channel → ps ≡ ls ++ ts → senders_from k x (focuses_from ls ts) ≡ w ∷ others
-        → Sees out now (record_at start w.focus) w.offer
-        → Answered start on said r (flat_map (λ v. takers_from v 0 (focuses ps)) (w ∷ others))
+pub record NextMeeting (s : List ℕ) (start k to : ℕ) (m : List ℕ) (now : Sighting) (out channel message : List ℕ) (r : Option Step)
+    (on said : List ℕ) : Type 0 where
+  pub exact : (x : ℕ) (ps ls ts : List Placed) (w : Party) (others : List Party) → Threads s out start k ps to
+      → Roomy s out m message k to → 510 ≤ length channel → ps ≡ ls ++ ts → senders_from k x (focuses_from ls ts) ≡ w ∷ others
+      → Sees out now (record_at start w.focus) w.offer
+      → Answered start on said r (flat_map (λ v. takers_from v 0 (focuses ps)) (w ∷ others))
 
 -- Whatever threads ps stand from start on: the answer is the first of what is left, senders among ts from x on.
-pub record Betweens (s : List ℕ) (start at k to : ℕ) (m : List ℕ) (x : ℕ) (out channel message : List ℕ) (r : Next) (on said : List ℕ) : Type 0
-  where
-    pub exact : (ps ls ts : List Placed) → Threads s out start k ps to → Roomy s out m message k to → 510 ≤ length channel
-        → ps ≡ ls ++ ts → at ≡ start + length (encode_records ls)
-        → Answered start on said r (between_from (focuses ps) k (focuses_from ls ts) x)
+pub record Betweens (s : List ℕ) (start at k to : ℕ) (m : List ℕ) (x : ℕ) (out channel message : List ℕ) (r : Option Step)
+    (on said : List ℕ) : Type 0 where
+  pub exact : (ps ls ts : List Placed) → Threads s out start k ps to → Roomy s out m message k to → 510 ≤ length channel
+      → ps ≡ ls ++ ts → at ≡ start + length (encode_records ls)
+      → Answered start on said r (between_from (focuses ps) k (focuses_from ls ts) x)
 
 -- A meeting of the threads ps: its sender is the first one from its own place on, and what comes after the meeting are those of this sender with
 -- the takers behind its own, and then those of the senders after it.
@@ -116,7 +118,7 @@ pub record Resumed (k : ℕ) (ps : List Placed) (after : List Move) (p q : Focus
       ++ between_from (focuses ps) k (p ∷ later_focuses p) (v.sender.place + 1) ≡ after
 
 -- The meetings of the definitions are those from the beginning on; what is left behind one of them is what comes after it. The proofs are in
--- proofs/Laws/BetweenMoves.antt, under the same names with a small first letter.
+-- proofs/Laws/BetweenMoves.antt, under the same names in snake case.
 abbrev pub BetweenAll : Type 0
 BetweenAll = (k : ℕ) (ps : List Placed) → flat_map (meetings k (focuses ps)) (focuses ps) ≡ between_from (focuses ps) k (focuses ps) 0
 

@@ -1,5 +1,5 @@
 -- What a step sends, and on what, in two slices that stay from one step to the next ("Steps").
-use Rattle.std.specs.Prelude.{◌≡◌, List, [], ◌∷◌, ℕ, length}
+use Rattle.std.specs.Prelude.{◌≡◌, Option, Some, None, List, [], ◌∷◌, ℕ, length}
 use Rattle.meaning.specs.Bytes.Standing.{Stands}
 use Rattle.message_bytes.specs.Encoding.{encode_message}
 use Rattle.step_transition.specs.Moves.{Move, alone, inside, between}
@@ -8,8 +8,6 @@ use Rattle.step_transition.specs.Step.{step_of, run_of}
 use Rattle.step_transition.specs.Behind.{Behind, all, later}
 use Rattle.step_label.specs.declared.step.Step as step
 use Rattle.step_label.specs.declared.step.Label.{Label}
-use Rattle.step_label.specs.declared.step.Next.{Next}
-use Rattle.step_label.specs.declared.step.Next.TheVariants as next
 
 -- The run of the channel of a step of two threads. For other steps none is kept.
 unfoldable pub channel_run : Move → List ℕ
@@ -23,9 +21,9 @@ pub record Buffered (channel message : List ℕ) (w : Move) : Type 0 where
   pub sent : Stands message 0 (run_of w) (length (run_of w))
 
 -- The answer is the first of these moves, with what it sends and on what; or none.
-abbrev pub Answered : (start : ℕ) → (channel message : List ℕ) → Next → List Move → Type 0
-Answered start channel message r [] = r ≡ next.None
-Answered start channel message r (v ∷ others) = (r ≡ next.Found (step_of start v)) × Buffered channel message v
+abbrev pub Answered : (start : ℕ) → (channel message : List ℕ) → Option step.Step → List Move → Type 0
+Answered start channel message r [] = r ≡ None
+Answered start channel message r (v ∷ others) = (r ≡ Some (step_of start v)) × Buffered channel message v
 
 -- Before the first step nothing is kept.
 abbrev pub BufferedBefore : {l : Label} {start : ℕ} {ws others : List Move} {v : step.Step} → (channel message : List ℕ) → Behind l start ws v others → Type 0

@@ -4,8 +4,9 @@ ghost use Rattle.buffer.specs.Buffer.{SameLength, WrittenFrom};
 ghost use Rattle.step_between.specs.Between.{IsAhead, NextSender, Takes, Pairs, NextMeeting, Betweens};
 ghost use Rattle.state_layout.specs.Layout.{RecordsFit};
 
+use state_task::task;
 use state_task::task::Quest;
-use step_label::step::{Actor, Label, Next, Step};
+use step_label::step::{Actor, Label, Step};
 use step_offer::seek::Sighting;
 use step_offer::{hand, seek};
 
@@ -13,13 +14,7 @@ use step_offer::{hand, seek};
 fn follows(at: usize, x: usize, to: usize, long: usize, place: usize, mark: usize) -> bool
     ensures { IsAhead at x to long place mark result }
 {
-    if mark == 0 {
-        return false;
-    }
-    if long < mark {
-        return false;
-    }
-    if to <= place {
+    if mark == 0 || long < mark || to <= place {
         return false;
     }
     if place == at {
@@ -43,10 +38,9 @@ fn sender(
     ensures written_from_2 { WrittenFrom to out.old out.new }
     ensures next_sender { NextSender s.now at names to m.old x out.old result out.new }
 {
-    let argument: [u8; 2] = [16, 0];
     seek::seek(
         s,
-        &argument[0..2],
+        &task::ANY,
         at,
         to,
         m,
@@ -73,7 +67,7 @@ pub fn take(
     y: usize,
     out: &mut [u8],
     size: usize,
-) -> Next
+) -> Option<Step>
     requires { RecordsFit s.now out.old to }
     ensures written_from { WrittenFrom 0 m.old m.new }
     ensures written_from_2 { WrittenFrom to out.old out.new }
@@ -96,19 +90,19 @@ pub fn take(
         out,
     );
     if found.done.mark == 0 {
-        return Next::None;
+        return None;
     }
-    Next::Found(Step {
+    Some(Step {
         label: Label::Silent,
         arity: 0,
         copy: 0,
-        sender: sender,
+        sender,
         taker: Actor {
             at: found.at,
             mark: found.done.mark,
             next: found.done.names,
         },
-        size: size,
+        size,
     })
 }
 
@@ -122,7 +116,7 @@ fn pair(
     out: &mut [u8],
     channel: &mut [u8],
     message: &mut [u8],
-) -> Next
+) -> Option<Step>
     requires { RecordsFit s.now out.old to }
     ensures written_from { WrittenFrom 0 m.old m.new }
     ensures written_from_2 { WrittenFrom to out.old out.new }
@@ -141,7 +135,7 @@ fn pair(
         Actor {
             at: sender.at,
             mark: sender.done.mark,
-            next: next,
+            next,
         },
         start,
         0,
@@ -152,7 +146,7 @@ fn pair(
 
 // The first pair of a sender and a taker in different threads of the state whose records stand from start to another position: senders from
 // the record at the position at on, in it from x on.
-#[cycle(between_onward)]
+#[cycle(pairing)]
 pub fn between(
     s: &[u8],
     start: usize,
@@ -164,7 +158,7 @@ pub fn between(
     out: &mut [u8],
     channel: &mut [u8],
     message: &mut [u8],
-) -> Next
+) -> Option<Step>
     requires { RecordsFit s.now out.old to }
     ensures written_from { WrittenFrom 0 m.old m.new }
     ensures written_from_2 { WrittenFrom to out.old out.new }
@@ -176,11 +170,11 @@ pub fn between(
     if follows(at, x, to, s.len(), found.at, found.done.mark) {
         return onward(s, start, names, to, m, found, out, channel, message);
     }
-    Next::None
+    None
 }
 
 // The same, where the sender was found already.
-#[cycle(between_onward)]
+#[cycle(pairing)]
 fn onward(
     s: &[u8],
     start: usize,
@@ -191,7 +185,7 @@ fn onward(
     out: &mut [u8],
     channel: &mut [u8],
     message: &mut [u8],
-) -> Next
+) -> Option<Step>
     requires { RecordsFit s.now out.old to }
     ensures written_from { WrittenFrom 0 m.old m.new }
     ensures written_from_2 { WrittenFrom to out.old out.new }
@@ -201,8 +195,8 @@ fn onward(
 {
     let at = sender.at;
     let mark = sender.done.mark;
-    match pair(s, start, to, m, sender, out, channel, message) {
-        Next::Found(step) => Next::Found(step),
-        Next::None => between(s, start, at, names, to, m, mark, out, channel, message),
+    if let Some(step) = pair(s, start, to, m, sender, out, channel, message) {
+        return Some(step);
     }
+    between(s, start, at, names, to, m, mark, out, channel, message)
 }

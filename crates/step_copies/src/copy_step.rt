@@ -10,9 +10,10 @@ use index_process::index;
 use state_progress::progress;
 use state_progress::progress::Progress;
 use state_start::loaded;
+use state_task::task;
 use state_task::task::Task;
 use step_copy_pair::meet;
-use step_label::step::Next;
+use step_label::step::Step;
 
 // Twice the most repl threads that the copies of one thread have, and one more.
 pub const GROUPS: usize = 8193;
@@ -23,13 +24,7 @@ fn no_silent(s: &[u8], at: usize, out: &[u8]) -> bool
     ensures { NoSilent s.now at out.now result }
 {
     let place = word::number(out, at);
-    if index::last(s, place, true) == 0 {
-        return true;
-    }
-    if index::last(s, place, false) == 0 {
-        return true;
-    }
-    false
+    index::last(s, place, true) == 0 || index::last(s, place, false) == 0
 }
 
 // The next repl thread of the thread whose record stands at a position, after the one at a mark.
@@ -47,10 +42,9 @@ fn find(
     ensures written_from_2 { WrittenFrom to out.old out.new }
     ensures finds { Finds s.now at names to m.old copy out.old result }
 {
-    let argument: [u8; 2] = [16, 0];
     loaded::traverse(
         s,
-        &argument[0..2],
+        &task::ANY,
         at,
         m,
         Task::Find(copy, true, names),
@@ -61,7 +55,7 @@ fn find(
 
 // The first silent step of the threads whose records stand from a position to another: of the first thread those in the copies of the repl
 // thread at a mark, senders from x on, and of the first sender takers from y on.
-#[cycle(begin_copy_step_pass)]
+#[cycle(searching)]
 pub fn copy_step(
     s: &[u8],
     at: usize,
@@ -75,7 +69,7 @@ pub fn copy_step(
     left: usize,
     out: &mut [u8],
     message: &mut [u8],
-) -> Next
+) -> Option<Step>
     requires { RecordsFit s.now out.old to }
     ensures written_from { WrittenFrom 0 m.old m.new }
     ensures written_from_2 { WrittenFrom to out.old out.new }
@@ -83,25 +77,25 @@ pub fn copy_step(
     ensures next_in_copies { NextInCopies s.now at names to m.old copy arity x y left out.old message.old result message.new }
 {
     if to <= at {
-        return Next::None;
+        return None;
     }
     if to - at < 4 {
-        return Next::None;
+        return None;
     }
     if left == 0 {
-        return Next::None;
+        return None;
     }
     if copy == 0 {
         return begin(s, at, names, to, m, left - 1, out, message);
     }
-    match meet::meet(s, at, names, to, m, copy, arity, x, y, out, message) {
-        Next::Found(step) => Next::Found(step),
-        Next::None => pass(s, at, names, to, m, copy, arity, left - 1, out, message),
+    if let Some(step) = meet::meet(s, at, names, to, m, copy, arity, x, y, out, message) {
+        return Some(step);
     }
+    pass(s, at, names, to, m, copy, arity, left - 1, out, message)
 }
 
 // What comes from the first repl thread of the first thread on.
-#[cycle(begin_copy_step_pass)]
+#[cycle(searching)]
 fn begin(
     s: &[u8],
     at: usize,
@@ -111,7 +105,7 @@ fn begin(
     left: usize,
     out: &mut [u8],
     message: &mut [u8],
-) -> Next
+) -> Option<Step>
     requires { (ShortModel s.now) × (at + 4 ≤ to) × (to ≤ length out.old) }
     ensures written_from { WrittenFrom 0 m.old m.new }
     ensures written_from_2 { WrittenFrom to out.old out.new }
@@ -126,7 +120,7 @@ fn begin(
 }
 
 // What comes after one copy, or two, of the repl thread at a mark.
-#[cycle(begin_copy_step_pass)]
+#[cycle(searching)]
 fn pass(
     s: &[u8],
     at: usize,
@@ -138,7 +132,7 @@ fn pass(
     left: usize,
     out: &mut [u8],
     message: &mut [u8],
-) -> Next
+) -> Option<Step>
     requires { (ShortModel s.now) × (at + 4 ≤ to) × (to ≤ length out.old) }
     ensures written_from { WrittenFrom 0 m.old m.new }
     ensures written_from_2 { WrittenFrom to out.old out.new }

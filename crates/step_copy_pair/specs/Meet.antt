@@ -1,5 +1,5 @@
 -- Silent steps in the copies of one thread: the next pair of a sender and a taker ("Steps").
-use Rattle.std.specs.Prelude.{◌≡◌, true, List, [], ◌∷◌, ◌++◌, ℕ, ◌+◌, ◌≤◌, length}
+use Rattle.std.specs.Prelude.{◌≡◌, true, Option, None, List, [], ◌∷◌, ◌++◌, ℕ, ◌+◌, ◌≤◌, length}
 use Rattle.meaning.specs.Messages.Term.{Message}
 use Rattle.state_record.specs.Record.{Placed}
 use Rattle.state_progress.specs.Represented.{Found}
@@ -11,8 +11,7 @@ use Rattle.step_located.specs.Sought.{wanted, sent_by, Opened}
 use Rattle.step_transition.specs.Focus.{Focus, record_at, copies_of, filter}
 use Rattle.state_layout.specs.Loaded.{IsRunOf}
 use Rattle.step_transition.specs.Step.{Shown}
-use Rattle.step_label.specs.declared.step.Next.{Next}
-use Rattle.step_label.specs.declared.step.Next.TheVariants.{None}
+use Rattle.step_label.specs.declared.step.Step.{Step}
 use Rattle.step_transition.specs.CopyOffers.{ThreadAt, copy_offers, Later, pairs_of, pairs_from, senders, moved}
 
 -- The copies of the repl thread at a mark, by number and by the name at which a second one opens.
@@ -51,25 +50,25 @@ pub record NextCopySender (s : List ℕ) (at k to : ℕ) (m : List ℕ) (copy x 
       → ShowsFirst after r (senders w x)
 
 -- One sender, found already, and its takers from y on; and all senders from x on.
-pub record Pairs (s : List ℕ) (at k to : ℕ) (m : List ℕ) (copy arity : ℕ) (now : Progress) (y : ℕ) (out : List ℕ) (message : List ℕ) (r : Next)
-    (said : List ℕ) : Type 0 where
+pub record Pairs (s : List ℕ) (at k to : ℕ) (m : List ℕ) (copy arity : ℕ) (now : Progress) (y : ℕ) (out : List ℕ) (message : List ℕ)
+    (r : Option Step) (said : List ℕ) : Type 0 where
   pub exact : (start : ℕ) (p : Focus) (w : Opened) (x : ℕ) (a : LocatedOffer) (others : List LocatedOffer) → CopyOf s out m start at k to p arity copy w
       → senders w x ≡ a ∷ others → Found out now a.place a.next (sent_by a) → 510 ≤ length message
       → Shown start said r (moved p arity w (pairs_of arity w y a))
 
 -- The same, the channel being copied to a slice.
 pub record PairsIn (channel s : List ℕ) (at k to : ℕ) (m : List ℕ) (copy arity : ℕ) (now : Progress) (y : ℕ) (out : List ℕ)
-    (message : List ℕ) (r : Next) (said : List ℕ) : Type 0 where
+    (message : List ℕ) (r : Option Step) (said : List ℕ) : Type 0 where
   pub exact : 510 ≤ length channel → Pairs s at k to m copy arity now y out message r said
 
-pub record NextPair (s : List ℕ) (at k to : ℕ) (m : List ℕ) (copy arity : ℕ) (now : Progress) (y : ℕ) (out : List ℕ) (message : List ℕ) (r : Next)
-    (said : List ℕ) : Type 0 where
+pub record NextPair (s : List ℕ) (at k to : ℕ) (m : List ℕ) (copy arity : ℕ) (now : Progress) (y : ℕ) (out : List ℕ) (message : List ℕ)
+    (r : Option Step) (said : List ℕ) : Type 0 where
   pub exact : (start : ℕ) (p : Focus) (w : Opened) (x : ℕ) (a : LocatedOffer) (others : List LocatedOffer) → CopyOf s out m start at k to p arity copy w
       → senders w x ≡ a ∷ others → Found out now a.place a.next (sent_by a) → 510 ≤ length message
       → Shown start said r (moved p arity w (pairs_from arity w y (a ∷ others)))
 
-pub record Meets (s : List ℕ) (at k to : ℕ) (m : List ℕ) (copy arity x y : ℕ) (out : List ℕ) (message : List ℕ) (r : Next) (said : List ℕ)
-    : Type 0 where
+pub record Meets (s : List ℕ) (at k to : ℕ) (m : List ℕ) (copy arity x y : ℕ) (out : List ℕ) (message : List ℕ) (r : Option Step)
+    (said : List ℕ) : Type 0 where
   pub nowhere : (t : Placed) → ThreadAt s out m at k to t → copy ≡ 0 → r ≡ None
   pub exact : (start : ℕ) (p : Focus) (w : Opened) → CopyOf s out m start at k to p arity copy w → 510 ≤ length message
       → Shown start said r (moved p arity w (pairs_from arity w y (senders w x)))

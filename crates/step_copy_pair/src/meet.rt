@@ -9,8 +9,9 @@ ghost use Rattle.state_layout.specs.Layout.{RecordFits};
 use state_progress::progress;
 use state_progress::progress::Progress;
 use state_start::loaded;
+use state_task::task;
 use state_task::task::{CopyAt, Quest, Task};
-use step_label::step::{Actor, Label, Next, Step};
+use step_label::step::{Actor, Label, Step};
 use step_offer::hand;
 
 // An offer in the copies of a repl thread of the thread whose record stands at a position.
@@ -57,10 +58,9 @@ fn sender(
     ensures written_from_2 { WrittenFrom to out.old out.new }
     ensures next_copy_sender { NextCopySender s.now at names to m.old copy from out.old result out.new }
 {
-    let argument: [u8; 2] = [16, 0];
     look(
         s,
-        &argument[0..2],
+        &task::ANY,
         at,
         names,
         to,
@@ -145,7 +145,7 @@ fn taken(
     out: &mut [u8],
     channel: &mut [u8],
     message: &mut [u8],
-) -> Next
+) -> Option<Step>
     requires { RecordFits s.now out.old at }
     ensures written_from { WrittenFrom 0 m.old m.new }
     ensures written_from_2 { WrittenFrom to out.old out.new }
@@ -169,9 +169,9 @@ fn taken(
     );
     let going = taker.going;
     if going {
-        return Next::None;
+        return None;
     }
-    Next::Found(Step {
+    Some(Step {
         label: Label::Silent,
         arity: arity,
         copy: copy,
@@ -202,7 +202,7 @@ fn pair(
     from: usize,
     out: &mut [u8],
     message: &mut [u8],
-) -> Next
+) -> Option<Step>
     requires { RecordFits s.now out.old at }
     ensures written_from { WrittenFrom 0 m.old m.new }
     ensures written_from_2 { WrittenFrom to out.old out.new }
@@ -227,7 +227,7 @@ fn pair(
 }
 
 // The first pair of a sender that stands at the position x or after it, and a taker, of the first sender from the position y on.
-#[cycle(meet_onward)]
+#[cycle(meeting)]
 pub fn meet(
     s: &[u8],
     at: usize,
@@ -240,7 +240,7 @@ pub fn meet(
     y: usize,
     out: &mut [u8],
     message: &mut [u8],
-) -> Next
+) -> Option<Step>
     requires { RecordFits s.now out.old at }
     ensures written_from { WrittenFrom 0 m.old m.new }
     ensures written_from_2 { WrittenFrom to out.old out.new }
@@ -251,19 +251,19 @@ pub fn meet(
     let mark = found.mark;
     let going = found.going;
     if going {
-        return Next::None;
+        return None;
     }
     if mark <= x {
-        return Next::None;
+        return None;
     }
     if s.len() < mark {
-        return Next::None;
+        return None;
     }
     onward(s, at, names, to, m, copy, arity, found, y, out, message)
 }
 
 // The same, where the sender was found already.
-#[cycle(meet_onward)]
+#[cycle(meeting)]
 fn onward(
     s: &[u8],
     at: usize,
@@ -276,7 +276,7 @@ fn onward(
     y: usize,
     out: &mut [u8],
     message: &mut [u8],
-) -> Next
+) -> Option<Step>
     requires { (at + 4 ≤ length out.old) × (ShortModel s.now) × (sender.mark ≤ length s.now) }
     ensures written_from { WrittenFrom 0 m.old m.new }
     ensures written_from_2 { WrittenFrom to out.old out.new }
@@ -284,8 +284,8 @@ fn onward(
     ensures next_pair { NextPair s.now at names to m.old copy arity sender y out.old message.old result message.new }
 {
     let mark = sender.mark;
-    match pair(s, at, names, to, m, copy, arity, sender, y, out, message) {
-        Next::Found(step) => Next::Found(step),
-        Next::None => meet(s, at, names, to, m, copy, arity, mark, 0, out, message),
+    if let Some(step) = pair(s, at, names, to, m, copy, arity, sender, y, out, message) {
+        return Some(step);
     }
+    meet(s, at, names, to, m, copy, arity, mark, 0, out, message)
 }

@@ -2,7 +2,7 @@
 // processes in the model.
 
 // What a step does.
-#[derive(Clone, Copy)]
+#[derive(Clone, Copy, PartialEq, Eq)]
 pub enum Label {
     Output,
     Input,
@@ -28,11 +28,4 @@ pub struct Step {
     pub sender: Actor,
     pub taker: Actor,
     pub size: usize,
-}
-
-// The next step, or none.
-#[derive(Clone, Copy)]
-pub enum Next {
-    Found(Step),
-    None,
 }

@@ -7,7 +7,7 @@ ghost use Rattle.state_layout.specs.Layout.{StateFits};
 
 use crate::silent;
 use state_record::state::State;
-use step_label::step::{Actor, Label, Next, Step};
+use step_label::step::{Actor, Label, Step};
 use step_visible::labelled;
 
 // Where the search for silent steps begins is no place of a step: two copies of no repl thread.
@@ -15,8 +15,7 @@ fn arity(label: Label) -> usize
     ensures { result ≡ arity_before label }
 {
     match label {
-        Label::Output => 0,
-        Label::Input => 0,
+        Label::Output | Label::Input => 0,
         Label::Silent => 2,
     }
 }
@@ -55,7 +54,7 @@ pub fn next(
     out: &mut [u8],
     buffered: &mut [u8],
     message: &mut [u8],
-) -> Next
+) -> Option<Step>
     requires { StateFits s.now out.old state }
     ensures written_from { WrittenFrom 0 m.old m.new }
     ensures written_from_2 { WrittenFrom state.end out.old out.new }
@@ -63,10 +62,8 @@ pub fn next(
     ensures same_length_2 { SameLength message.old message.new }
     ensures nexts { Nexts s.now channel.now state step m.old out.old buffered.old message.old result buffered.new message.new }
 {
-    let label = step.label;
-    match label {
-        Label::Output => labelled::next(s, state, step, channel, m, out, message),
-        Label::Input => labelled::next(s, state, step, channel, m, out, message),
+    match step.label {
+        Label::Output | Label::Input => labelled::next(s, state, step, channel, m, out, message),
         Label::Silent => silent::next(s, state, step, m, out, buffered, message),
     }
 }

@@ -8,7 +8,7 @@ use message_bytes::run;
 use state_record::state::State;
 use step_between::between;
 use step_copies::copy_step;
-use step_label::step::{Next, Step};
+use step_label::step::Step;
 
 // The position of a mark.
 fn place(mark: usize) -> usize
@@ -30,7 +30,7 @@ fn later(
     out: &mut [u8],
     channel: &mut [u8],
     message: &mut [u8],
-) -> Next
+) -> Option<Step>
     requires { StateFits s.now out.old state }
     ensures written_from { WrittenFrom 0 m.old m.new }
     ensures written_from_2 { WrittenFrom state.end out.old out.new }
@@ -41,7 +41,7 @@ fn later(
     let sender = step.sender;
     let taker = step.taker;
     let long = 2 * run::size(channel);
-    match between::take(
+    if let Some(found) = between::take(
         s,
         &channel[0..long],
         state.end,
@@ -52,20 +52,20 @@ fn later(
         out,
         step.size,
     ) {
-        Next::Found(found) => Next::Found(found),
-        Next::None => between::between(
-            s,
-            state.start,
-            sender.at,
-            state.names,
-            state.end,
-            m,
-            sender.mark,
-            out,
-            channel,
-            message,
-        ),
+        return Some(found);
     }
+    between::between(
+        s,
+        state.start,
+        sender.at,
+        state.names,
+        state.end,
+        m,
+        sender.mark,
+        out,
+        channel,
+        message,
+    )
 }
 
 // The next silent step behind one, or the first one. The channel of a step of two threads stands at the front of one slice, and what a step
@@ -78,7 +78,7 @@ pub fn next(
     out: &mut [u8],
     channel: &mut [u8],
     message: &mut [u8],
-) -> Next
+) -> Option<Step>
     requires { StateFits s.now out.old state }
     ensures written_from { WrittenFrom 0 m.old m.new }
     ensures written_from_2 { WrittenFrom state.end out.old out.new }
@@ -102,7 +102,7 @@ fn first(
     out: &mut [u8],
     channel: &mut [u8],
     message: &mut [u8],
-) -> Next
+) -> Option<Step>
     requires { StateFits s.now out.old state }
     ensures written_from { WrittenFrom 0 m.old m.new }
     ensures written_from_2 { WrittenFrom state.end out.old out.new }
@@ -113,7 +113,7 @@ fn first(
     let start = state.start;
     let sender = step.sender;
     let taker = step.taker;
-    match copy_step::copy_step(
+    if let Some(found) = copy_step::copy_step(
         s,
         sender.at,
         state.names,
@@ -127,18 +127,18 @@ fn first(
         out,
         message,
     ) {
-        Next::Found(found) => Next::Found(found),
-        Next::None => between::between(
-            s,
-            start,
-            start,
-            state.names,
-            state.end,
-            m,
-            0,
-            out,
-            channel,
-            message,
-        ),
+        return Some(found);
     }
+    between::between(
+        s,
+        start,
+        start,
+        state.names,
+        state.end,
+        m,
+        0,
+        out,
+        channel,
+        message,
+    )
 }

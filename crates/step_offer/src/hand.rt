@@ -40,16 +40,10 @@ pub fn one(out: &[u8], from: usize, to: &mut [u8]) -> usize
     ensures same_length { SameLength to.old to.new }
     ensures copies { Copies out.now from result to.new }
 {
-    let long = out.len();
-    if long < from {
+    if out.len() < from {
         return 0;
     }
-    let size = 2 * run::size(&out[from..long]);
-    if to.len() < size {
-        return 0;
-    }
-    stored::fetch(&out[from..from + size], to);
-    size
+    until(out, from, from + 2 * run::size(&out[from..]), to)
 }
 
 // Copies the message that stands from a position to another to the front of a slice, and answers how many bytes it takes.
@@ -58,16 +52,12 @@ pub fn until(out: &[u8], from: usize, end: usize, to: &mut [u8]) -> usize
     ensures same_length { SameLength to.old to.new }
     ensures copies_to { CopiesTo out.now from end result to.new }
 {
-    if end < from {
+    let Some(run) = out.get(from..end) else {
+        return 0;
+    };
+    if to.len() < run.len() {
         return 0;
     }
-    if out.len() < end {
-        return 0;
-    }
-    let size = end - from;
-    if to.len() < size {
-        return 0;
-    }
-    stored::fetch(&out[from..end], to);
-    size
+    stored::fetch(run, to);
+    run.len()
 }

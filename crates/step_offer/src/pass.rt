@@ -6,7 +6,8 @@ ghost use Rattle.index_process.specs.Index.{ShortModel};
 ghost use Rattle.state_layout.specs.Layout.{RecordsFit};
 
 use buffer::word;
-use decode_layout::{process_kind, term_kind};
+use decode_layout::process_kind::ProcessKind;
+use decode_layout::term_kind;
 use index_process::index;
 use state_prefix::thread;
 use state_task::task::Quest;
@@ -22,12 +23,7 @@ pub(crate) struct Passed {
 pub(crate) fn starting(quest: Quest, from: usize) -> Quest
     ensures { result ≡ starting_at quest from }
 {
-    Quest {
-        output: quest.output,
-        any: quest.any,
-        from: from,
-        excluded: quest.excluded,
-    }
+    Quest { from, ..quest }
 }
 
 // Whether the term at a position is a public name, and the channel that is sought another message: no public name, or one whose number has
@@ -36,16 +32,10 @@ fn differs(s: &[u8], argument: &[u8], at: usize) -> bool
     requires { at ≤ 36864 }
     ensures { Differs s.now argument.now at result }
 {
-    if s.len() <= at + 1 {
+    if s.len() <= at + 1 || usize::from(s[at]) != term_kind::NAME {
         return false;
     }
-    if word::wide(s[at]) != term_kind::NAME {
-        return false;
-    }
-    if argument.len() != 2 {
-        return true;
-    }
-    (2 * word::wide(s[at + 1]) + 16) % 256 != word::wide(argument[0])
+    argument.len() != 2 || (2 * usize::from(s[at + 1]) + 16) % 256 != usize::from(argument[0])
 }
 
 // Whether the thread whose process stands at a position surely has no offer that is sought: an output or an input that is not meant, or has
@@ -57,18 +47,11 @@ fn no_offer(s: &[u8], argument: &[u8], place: usize, quest: Quest) -> bool
     if s.len() <= place {
         return false;
     }
-    let kind = word::wide(s[place]);
-    if kind == process_kind::REPL {
-        if index::last(s, place, quest.output) <= quest.from {
-            return true;
-        }
-        return false;
+    if matches!(ProcessKind::try_from(s[place]), Ok(ProcessKind::Repl)) {
+        return index::last(s, place, quest.output) <= quest.from;
     }
-    if thread::meant(quest, place, kind) {
-        if quest.any {
-            return false;
-        }
-        return differs(s, argument, place + 1);
+    if thread::meant(quest, place, usize::from(s[place])) {
+        return !quest.any && differs(s, argument, place + 1);
     }
     true
 }
@@ -78,10 +61,7 @@ fn skipped(s: &[u8], argument: &[u8], at: usize, quest: Quest, skip: usize, out:
     requires { (ShortModel s.now) × (at + 4 ≤ length out.now) }
     ensures { Skips s.now argument.now at quest skip out.now result }
 {
-    if at == skip {
-        return true;
-    }
-    no_offer(s, argument, word::number(out, at), quest)
+    at == skip || no_offer(s, argument, word::number(out, at), quest)
 }
 
 // The first record from a position on whose thread may have an offer of the quest, and is not the one at the position skip.
@@ -101,17 +81,17 @@ pub(crate) fn pass(
     let mut i = at;
     let mut from = quest.from;
     if to < 4 {
-        return Passed { at: i, from: from };
+        return Passed { at: i, from };
     }
     let last = to - 4;
     while i <= last {
         if !skipped(s, argument, i, starting(quest, from), skip, out) {
-            return Passed { at: i, from: from };
+            return Passed { at: i, from };
         }
         i = i + 4 + word::number(out, i + 2);
         from = 0;
     }
-    Passed { at: i, from: from }
+    Passed { at: i, from }
 }
 
 // The first such record behind the one at a position.

@@ -7,12 +7,12 @@ ghost use Rattle.state_layout.specs.Layout.{RecordFits, RecordsFit};
 
 use crate::pass;
 use buffer::word;
-use decode_layout::{limit, process_kind};
+use decode_layout::limit;
+use decode_layout::process_kind::ProcessKind;
 use state_head::head;
 use state_prefix::thread;
 use state_progress::progress;
 use state_progress::progress::Progress;
-use state_record::state::State;
 use state_record::stored;
 use state_search::seek;
 use state_task::task::Quest;
@@ -29,14 +29,8 @@ fn nothing(at: usize, to: usize, names: usize) -> Sighting
     ensures { result.done.mark ≡ 0 }
 {
     Sighting {
-        at: at,
-        done: Progress {
-            going: true,
-            names: names,
-            mark: 0,
-            sent: to,
-            state: State::fresh(to, to, 0),
-        },
+        at,
+        done: progress::begin(to, names),
     }
 }
 
@@ -120,10 +114,10 @@ fn look(
     if s.len() <= place {
         return progress::begin(to, names);
     }
-    if word::wide(s[place]) == process_kind::REPL {
-        return traversed(s, argument, at, to, m, quest, names, out);
+    match ProcessKind::try_from(s[place]) {
+        Ok(ProcessKind::Repl) => traversed(s, argument, at, to, m, quest, names, out),
+        _ => alone(s, argument, at, place, to, m, quest, names, out),
     }
-    alone(s, argument, at, place, to, m, quest, names, out)
 }
 
 // The first offer of a quest among the threads whose records stand from a position to another, which is the end of the state: what the traversals
@@ -161,11 +155,11 @@ pub fn seek(
             return Sighting {
                 at: i,
                 done: Progress {
-                    going: going,
+                    going,
                     names: done.names,
                     mark: done.mark,
                     sent: done.sent,
-                    state: state,
+                    state,
                 },
             };
         }

@@ -1,5 +1,5 @@
 -- Silent steps in copies: which of the definitions they are, and what is left of them after a step ("Steps"). The proofs are in
--- proofs/Laws/CopyMoves.antt, CopyMovesResumed.antt and CopyMovesSilent.antt, under the same names with a small first letter.
+-- proofs/Laws/CopyMoves.antt, CopyMovesResumed.antt and CopyMovesSilent.antt, under the same names in snake case.
 use Rattle.std.specs.Prelude.{◌≡◌, ℕ, ◌+◌, ◌≤◌}
 use mathlib.Core.List.{List, ◌∷◌, ◌++◌, map, flat_map}
 use Rattle.state_record.specs.Record.{Placed}

@@ -1,5 +1,5 @@
 -- A step as numbers: the threads that act by the positions of their records, the processes that act by their marks ("Steps").
-use Rattle.std.specs.Prelude.{◌≡◌, true, false, List, [], ◌∷◌, ℕ, ◌+◌, length}
+use Rattle.std.specs.Prelude.{◌≡◌, true, false, Option, Some, None, List, [], ◌∷◌, ℕ, ◌+◌, length}
 use Rattle.meaning.specs.Bytes.Process.{Prefix, output, input}
 use Rattle.meaning.specs.Steps.State.{worked}
 use Rattle.message_bytes.specs.Encoding.{encode_message}
@@ -10,8 +10,6 @@ use Rattle.step_transition.specs.Moves.{Move, alone, inside, between}
 use Rattle.step_transition.specs.Outcome.{sent_by}
 use Rattle.meaning.specs.Bytes.Standing.{Stands}
 use Rattle.step_label.specs.declared.step.Step as code
-use Rattle.step_label.specs.declared.step.Next.{Next}
-use Rattle.step_label.specs.declared.step.Next.TheVariants as next
 use Rattle.step_label.specs.declared.step.Actor.{Actor}
 use Rattle.step_label.specs.declared.step.Label.TheVariants.{Output, Input, Silent}
 
@@ -75,6 +73,6 @@ run_of (inside p w) = encode_message (sent_by w.pair)
 run_of (between p q w) = encode_message (sent_by w)
 
 -- The answer is the first of these moves, whose message stands at the front of a slice; or none.
-abbrev pub Shown : (start : ℕ) → (said : List ℕ) → Next → List Move → Type 0
-Shown start said r [] = r ≡ next.None
-Shown start said r (v ∷ others) = (r ≡ next.Found (step_of start v)) × Stands said 0 (run_of v) (length (run_of v))
+abbrev pub Shown : (start : ℕ) → (said : List ℕ) → Option code.Step → List Move → Type 0
+Shown start said r [] = r ≡ None
+Shown start said r (v ∷ others) = (r ≡ Some (step_of start v)) × Stands said 0 (run_of v) (length (run_of v))

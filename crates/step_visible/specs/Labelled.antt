@@ -1,5 +1,5 @@
 -- The next output or input on the channel of a label ("Steps").
-use Rattle.std.specs.Prelude.{◌≡◌, Bool, true, false, List, [], ◌∷◌, ◌++◌, ℕ, ◌+◌, ◌≤◌, length}
+use Rattle.std.specs.Prelude.{◌≡◌, Bool, true, false, Option, Some, List, [], ◌∷◌, ◌++◌, ℕ, ◌+◌, ◌≤◌, length}
 use Rattle.meaning.specs.Messages.Term.{Message}
 use Rattle.meaning.specs.Bytes.Standing.{Stands}
 use Rattle.message_bytes.specs.Encoding.{encode_message}
@@ -16,8 +16,6 @@ use Rattle.state_layout.specs.Loaded.{IsRunOf}
 use Rattle.step_transition.specs.Step.{Shown}
 use Rattle.step_label.specs.declared.step.Step.{Step}
 use Rattle.step_label.specs.declared.step.Label.TheVariants.{Output, Input}
-use Rattle.step_label.specs.declared.step.Next.{Next}
-use Rattle.step_label.specs.declared.step.Next.TheVariants.{Found}
 use Rattle.index_process.specs.Index.{ShortModel}
 
 -- Outputs, or inputs, on the channel of a label, at the position from or after it.
@@ -31,14 +29,15 @@ pub data Upcoming (start at mark : ℕ) (ws : List Move) : List Move → Type 0 
       → mark ≡ a.place + 1 → Upcoming start at mark ws later
 
 -- Whatever threads a state has, the answer is the first of their outputs, or inputs, that come behind a cursor.
-pub record NextVisible (output : Bool) (s channel : List ℕ) (st : State) (at from : ℕ) (m out message : List ℕ) (r : Next) (after : List ℕ) : Type 0
-  where
-    pub exact : (ps : List Placed) (x : Message) (ws : List Move) → Threads s out st.start st.names ps st.end → IsRunOf channel x
-        → ShortModel s → 10750 ≤ length m → st.end + 3964 ≤ length out → 510 ≤ length message → st.names ≤ 28664
-        → Upcoming st.start at from (labelled_moves output x st.names ps) ws → Shown st.start after r ws
+pub record NextVisible (output : Bool) (s channel : List ℕ) (st : State) (at from : ℕ) (m out message : List ℕ) (r : Option Step)
+    (after : List ℕ) : Type 0 where
+  pub exact : (ps : List Placed) (x : Message) (ws : List Move) → Threads s out st.start st.names ps st.end → IsRunOf channel x
+      → ShortModel s → 10750 ≤ length m → st.end + 3964 ≤ length out → 510 ≤ length message → st.names ≤ 28664
+      → Upcoming st.start at from (labelled_moves output x st.names ps) ws → Shown st.start after r ws
 
 -- The same for a step, which is the cursor: of an output its sender, of an input its taker. For a silent step nothing is said.
-pub record NextLabelled (s channel : List ℕ) (st : State) (step : Step) (m out message : List ℕ) (r : Next) (after : List ℕ) : Type 0 where
+pub record NextLabelled (s channel : List ℕ) (st : State) (step : Step) (m out message : List ℕ) (r : Option Step)
+    (after : List ℕ) : Type 0 where
   pub output : step.label ≡ Output → NextVisible true s channel st step.sender.at step.sender.mark m out message r after
   pub input : step.label ≡ Input → NextVisible false s channel st step.taker.at step.taker.mark m out message r after
 
@@ -65,7 +64,7 @@ input_step at now = record {
 }
 
 -- The second of two messages that stand in the work bytes is handed over, as that of an output.
-pub record HandsOver (out : List ℕ) (at : ℕ) (now : Progress) (message : List ℕ) (r : Next) (after : List ℕ) : Type 0 where
+pub record HandsOver (out : List ℕ) (at : ℕ) (now : Progress) (message : List ℕ) (r : Option Step) (after : List ℕ) : Type 0 where
   pub exact : (x y : Message) → Stands out now.sent (encode_messages (x ∷ y ∷ [])) now.state.end
       → length (encode_message y) ≤ length message
-      → (r ≡ Found (output_step at now (length (encode_message y)))) × Stands after 0 (encode_message y) (length (encode_message y))
+      → (r ≡ Some (output_step at now (length (encode_message y)))) × Stands after 0 (encode_message y) (length (encode_message y))

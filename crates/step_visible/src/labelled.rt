@@ -8,7 +8,7 @@ use message_bytes::run;
 use state_progress::progress::Progress;
 use state_record::state::State;
 use state_task::task::Quest;
-use step_label::step::{Actor, Label, Next, Step};
+use step_label::step::{Actor, Label, Step};
 use step_offer::{hand, seek};
 
 // Outputs, or inputs, on the channel of the label, at a position or after it.
@@ -24,18 +24,18 @@ fn quest(output: bool, from: usize) -> Quest
 }
 
 // The step of an output that was found: of the channel and the message, which stand in the work bytes, the message is copied.
-fn handed(out: &[u8], at: usize, done: Progress, message: &mut [u8]) -> Next
+fn handed(out: &[u8], at: usize, done: Progress, message: &mut [u8]) -> Option<Step>
     ensures written_from { WrittenFrom 0 message.old message.new }
     ensures hands_over { HandsOver out.now at done message.old result message.new }
 {
     let from = done.sent;
     let long = out.len();
     if long < from {
-        return Next::None;
+        return None;
     }
     let mid = from + 2 * run::size(&out[from..long]);
     let size = hand::until(out, mid, done.state.end, message);
-    Next::Found(Step {
+    Some(Step {
         label: Label::Output,
         arity: 0,
         copy: 0,
@@ -53,77 +53,44 @@ fn handed(out: &[u8], at: usize, done: Progress, message: &mut [u8]) -> Next
     })
 }
 
-// The first output in the record at a position whose mark is above another one, or in a record behind it.
-fn send(
+// The first output, or input, in the record at a position whose mark is above another one, or in a record behind it. An input hands over nothing.
+fn visible(
     s: &[u8],
     channel: &[u8],
     state: State,
+    output: bool,
     at: usize,
     from: usize,
     m: &mut [u8],
     out: &mut [u8],
     message: &mut [u8],
-) -> Next
+) -> Option<Step>
     requires { StateFits s.now out.old state }
     ensures written_from { WrittenFrom 0 m.old m.new }
     ensures written_from_2 { WrittenFrom state.end out.old out.new }
     ensures written_from_3 { WrittenFrom 0 message.old message.new }
-    ensures next_visible { NextVisible true s.now channel.now state at from m.old out.old message.old result message.new }
+    ensures next_visible { NextVisible output s.now channel.now state at from m.old out.old message.old result message.new }
 {
-    let end = state.end;
     let found = seek::seek(
         s,
         channel,
         at,
-        end,
+        state.end,
         m,
-        quest(true, from),
-        end,
+        quest(output, from),
+        state.end,
         state.names,
         out,
     );
     let place = found.at;
     let done = found.done;
     if done.mark == 0 {
-        return Next::None;
+        return None;
     }
-    handed(out, place, done, message)
-}
-
-// The same for inputs. An input hands over nothing.
-fn take(
-    s: &[u8],
-    channel: &[u8],
-    state: State,
-    at: usize,
-    from: usize,
-    m: &mut [u8],
-    out: &mut [u8],
-    message: &[u8],
-) -> Next
-    requires { StateFits s.now out.old state }
-    ensures written_from { WrittenFrom 0 m.old m.new }
-    ensures written_from_2 { WrittenFrom state.end out.old out.new }
-    ensures next_visible { NextVisible false s.now channel.now state at from m.old out.old message.now result message.now }
-{
-    let end = state.end;
-    let found = seek::seek(
-        s,
-        channel,
-        at,
-        end,
-        m,
-        quest(false, from),
-        end,
-        state.names,
-        out,
-    );
-    let place = found.at;
-    let done = found.done;
-    if done.mark == 0 {
-        return Next::None;
+    if output {
+        return handed(out, place, done, message);
     }
-    Next::Found(Step {
+    Some(Step {
         label: Label::Input,
         arity: 0,
         copy: 0,
@@ -151,35 +118,36 @@ pub fn next(
     m: &mut [u8],
     out: &mut [u8],
     message: &mut [u8],
-) -> Next
+) -> Option<Step>
     requires { StateFits s.now out.old state }
     ensures written_from { WrittenFrom 0 m.old m.new }
     ensures written_from_2 { WrittenFrom state.end out.old out.new }
     ensures written_from_3 { WrittenFrom 0 message.old message.new }
     ensures next_labelled { NextLabelled s.now channel.now state step m.old out.old message.old result message.new }
 {
-    let label = step.label;
-    match label {
-        Label::Output => send(
+    match step.label {
+        Label::Output => visible(
             s,
             channel,
             state,
+            true,
             step.sender.at,
             step.sender.mark,
             m,
             out,
             message,
         ),
-        Label::Input => take(
+        Label::Input => visible(
             s,
             channel,
             state,
+            false,
             step.taker.at,
             step.taker.mark,
             m,
             out,
             message,
         ),
-        Label::Silent => Next::None,
+        Label::Silent => None,
     }
 }

@@ -1,5 +1,5 @@
 -- The private names at which the rests of a step are settled, and the next one after them ("Steps").
-use Rattle.std.specs.Prelude.{◌≡◌, List, ◌∷◌, ◌++◌, ℕ, ◌+◌, ◌-◌, ◌≤◌}
+use Rattle.std.specs.Prelude.{◌≡◌, List, ◌∷◌, ◌++◌, Option, Some, ℕ, ◌+◌, ◌≤◌}
 use Rattle.meaning.specs.Messages.Term.{Message}
 use Rattle.meaning.specs.Bytes.Process.{Prefix, Process}
 use Rattle.meaning.specs.Steps.State.{Bound}
@@ -7,8 +7,6 @@ use Rattle.meaning.specs.Steps.Invariant.{BoundStored}
 use Rattle.state_record.specs.Place.{ProcessAt}
 use Rattle.state_record.specs.Record.{Placed, process_of, bound_of}
 use Rattle.state_head.specs.Count.{count_of}
-use Rattle.state_head.specs.declared.count.Counted.{Counted}
-use Rattle.state_head.specs.declared.count.Counted.TheVariants.{Names}
 use Rattle.step_located.specs.Located.{LocatedOffer}
 use Rattle.step_located.specs.Sought.{Opened}
 use Rattle.state_task.specs.declared.task.CopyAt.{CopyAt}
@@ -47,20 +45,20 @@ pub record ComesIn (s : List ℕ) (at k : ℕ) (m : List ℕ) (c : CopyAt) (mark
       → copies_of t k ≡ pre ++ (w ∷ post) → c.place ≡ w.place + 1 → 1 ≤ c.arity → Later c w → (excluded : ℕ)
       → copy_offers excluded c w ≡ before ++ (a ∷ behind) → mark ≡ a.place + 1 → (i : ℕ) × Arrives s after r (offer_site a i)
 
--- Where the answer is not 0, what follows whatever output or input stands at the mark takes names up to one less than that, settled at n under
--- whatever messages.
-pub record FixedBehind (s : List ℕ) (mark n r : ℕ) : Type 0 where
-  pub exact : (r ≡ 0 → ⊥) → (p : Prefix) (P : Process) (ρ : Bound) {at left scope next : ℕ} → mark ≡ at + 1
-      → ProcessAt s at left scope (Process.act p P) next → Names (r - 1) ≡ count_of P ρ n
+-- Where there is an answer, what follows whatever output or input stands at the mark takes names up to that one, settled at n under whatever
+-- messages.
+pub record FixedBehind (s : List ℕ) (mark n : ℕ) (r : Option ℕ) : Type 0 where
+  pub exact : {last : ℕ} → r ≡ Some last → (p : Prefix) (P : Process) (ρ : Bound) {at left scope next : ℕ} → mark ≡ at + 1
+      → ProcessAt s at left scope (Process.act p P) next → Some last ≡ count_of P ρ n
 
 -- Whatever offer of the thread has the mark, copies being opened at k: the private names after what follows it, settled at n.
-pub record Counts (s argument : List ℕ) (at k : ℕ) (m : List ℕ) (mark n : ℕ) (out : List ℕ) (r : Counted) : Type 0 where
+pub record Counts (s argument : List ℕ) (at k : ℕ) (m : List ℕ) (mark n : ℕ) (out : List ℕ) (r : Option ℕ) : Type 0 where
   pub exact : (t : Placed) (x : Message) (before after : List LocatedOffer) (a : LocatedOffer) {j to : ℕ} → ThreadAt s out m at j to t → IsRunOf argument x
       → j ≤ k → k ≤ 28664 → n ≤ 28664 → offers_of t k ≡ before ++ (a ∷ after) → mark ≡ a.place + 1
       → r ≡ count_of a.rest (bound_after x a) n
 
 -- The same for an offer in the copies of a repl thread of the thread.
-pub record CountsIn (s argument : List ℕ) (at k : ℕ) (m : List ℕ) (c : CopyAt) (mark n : ℕ) (out : List ℕ) (r : Counted) : Type 0 where
+pub record CountsIn (s argument : List ℕ) (at k : ℕ) (m : List ℕ) (c : CopyAt) (mark n : ℕ) (out : List ℕ) (r : Option ℕ) : Type 0 where
   pub exact : (t : Placed) (x : Message) (pre post : List Opened) (w : Opened) (before after : List LocatedOffer) (a : LocatedOffer) {to : ℕ}
       → ThreadAt s out m at k to t → IsRunOf argument x → n ≤ 28664 → copies_of t k ≡ pre ++ (w ∷ post) → c.place ≡ w.place + 1
       → 1 ≤ c.arity → Later c w → (excluded : ℕ) → copy_offers excluded c w ≡ before ++ (a ∷ after) → mark ≡ a.place + 1

@@ -7,7 +7,6 @@ ghost use Rattle.state_layout.specs.Layout.{RecordFits};
 
 use decode_layout::limit;
 use state_head::count as fixed_names;
-use state_head::count::Counted;
 use state_record::stored;
 use state_task::place;
 use state_task::task::CopyAt;
@@ -35,7 +34,7 @@ pub(crate) fn arrive(
         left: limit::PROCESS_NODES,
         end: t.end,
         names: 0,
-        opens: opens,
+        opens,
     };
     if place < s.len() {
         if place + 1 == mark {
@@ -72,8 +71,8 @@ fn enter(s: &[u8], thread: Way, m: &mut [u8], copy: CopyAt, mark: usize) -> Way
         return reach::reach(s, inner, m, mark);
     }
     let again = Way {
-        at: at,
-        left: left,
+        at,
+        left,
         end: thread.end,
         names: 0,
         opens: copy.second,
@@ -100,23 +99,23 @@ pub(crate) fn arrive_in(
     enter(s, thread, m, copy, mark)
 }
 
-// One more than the private name after those of what follows the offer at a mark, settled at a private name, if the index has their number; 0
-// if it has not. Nobody has to go down to the offer then.
-fn fixed(s: &[u8], mark: usize, names: usize) -> usize
+// The private name after those of what follows the offer at a mark, settled at a private name, if the index has their number. Nobody has to go
+// down to the offer then.
+fn fixed(s: &[u8], mark: usize, names: usize) -> Option<usize>
     ensures { FixedBehind s.now mark names result }
 {
     if mark == 0 {
-        return 0;
+        return None;
     }
     let at = mark - 1;
     if s.len() <= at {
-        return 0;
+        return None;
     }
     fixed_names::fixed(s, place::rest(s, at), names)
 }
 
 // The private name after those of what follows the offer at a mark of the thread whose record stands at a position, settled at a private
-// name. Copies open at another one.
+// name. Copies open at another one. None where a limit is met.
 pub fn count(
     s: &[u8],
     argument: &[u8],
@@ -126,14 +125,13 @@ pub fn count(
     mark: usize,
     names: usize,
     out: &[u8],
-) -> Counted
+) -> Option<usize>
     requires { RecordFits s.now out.now at }
     ensures written_from { WrittenFrom 0 m.old m.new }
     ensures counts { Counts s.now argument.now at opens m.old mark names out.now result }
 {
-    let known = fixed(s, mark, names);
-    if known != 0 {
-        return Counted::Names(known - 1);
+    if let Some(next) = fixed(s, mark, names) {
+        return Some(next);
     }
     let offer = arrive(s, at, opens, m, mark, out);
     count::rest(s, argument, offer.at, offer.left, m, offer.end, names)
@@ -150,14 +148,13 @@ pub fn count_in(
     mark: usize,
     names: usize,
     out: &[u8],
-) -> Counted
+) -> Option<usize>
     requires { RecordFits s.now out.now at }
     ensures written_from { WrittenFrom 0 m.old m.new }
     ensures counts_in { CountsIn s.now argument.now at opens m.old copy mark names out.now result }
 {
-    let known = fixed(s, mark, names);
-    if known != 0 {
-        return Counted::Names(known - 1);
+    if let Some(next) = fixed(s, mark, names) {
+        return Some(next);
     }
     let offer = arrive_in(s, at, opens, m, copy, mark, out);
     count::rest(s, argument, offer.at, offer.left, m, offer.end, names)

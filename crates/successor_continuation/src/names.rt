@@ -1,23 +1,24 @@
 // The private names that the rests of a step take ("Steps").
 ghost use Rattle.std.specs.Prelude.{◌≡◌, ◌≤◌, length};
 ghost use Rattle.buffer.specs.Buffer.{WrittenFrom};
-ghost use Rattle.successor_continuation.specs.Rests.{only_of, then_of, step_copies, CountsActor, CountsTaker, SettlesSilent, Settles};
+ghost use Rattle.successor_continuation.specs.Rests.{step_copies, CountsActor, CountsTaker, SettlesSilent, Settles};
 ghost use Rattle.state_layout.specs.Layout.{StateFits};
 
 use crate::counting;
-use state_head::count::Counted;
 use state_record::state::State;
 use state_task::task::CopyAt;
 use step_label::step::{Actor, Label, Step};
 
-// The private names at which the rest of a silent step's taker is settled, and the next one after all rests; or a rest meets a limit.
+// The private names of the rests of a step.
 #[derive(Clone, Copy)]
-pub enum Rests {
-    At(usize, usize),
-    OverLimit,
+pub struct Rests {
+    // The one at which the rest of a silent step's taker is settled; 0 for other steps.
+    pub last: usize,
+    // The next one after all rests.
+    pub next: usize,
 }
 
-// The private names of the rests of a step: those of the sender's come before those of the taker's.
+// The private names of the rests of a step: those of the sender's come before those of the taker's. There are none where a rest meets a limit.
 pub fn rest_names(
     s: &[u8],
     state: State,
@@ -25,7 +26,7 @@ pub fn rest_names(
     message: &[u8],
     m: &mut [u8],
     out: &[u8],
-) -> Rests
+) -> Option<Rests>
     requires { StateFits s.now out.now state }
     ensures written_from { WrittenFrom 0 m.old m.new }
     ensures settles { Settles s.now state step message.now m.old out.now result }
@@ -34,8 +35,14 @@ pub fn rest_names(
     let sender = step.sender;
     let taker = step.taker;
     match label {
-        Label::Output => only(after(s, state, sender, sender.next, message, m, out)),
-        Label::Input => only(after(s, state, taker, taker.next, message, m, out)),
+        Label::Output => {
+            let next = after(s, state, sender, sender.next, message, m, out)?;
+            Some(Rests { last: 0, next })
+        }
+        Label::Input => {
+            let next = after(s, state, taker, taker.next, message, m, out)?;
+            Some(Rests { last: 0, next })
+        }
         Label::Silent => silent_names(s, state, step, message, m, out),
     }
 }
@@ -48,37 +55,16 @@ fn silent_names(
     message: &[u8],
     m: &mut [u8],
     out: &[u8],
-) -> Rests
+) -> Option<Rests>
     requires { StateFits s.now out.now state }
     ensures written_from { WrittenFrom 0 m.old m.new }
     ensures settles_silent { SettlesSilent s.now state step message.now m.old out.now result }
 {
     let sender = step.sender;
     let taker = step.taker;
-    match after(s, state, sender, taker.next, message, m, out) {
-        Counted::Names(last) => then(last, after_taker(s, state, step, last, message, m, out)),
-        Counted::OverLimit => Rests::OverLimit,
-    }
-}
-
-// The rest of one thread alone.
-fn only(counted: Counted) -> Rests
-    ensures { result ≡ only_of counted }
-{
-    match counted {
-        Counted::Names(next) => Rests::At(0, next),
-        Counted::OverLimit => Rests::OverLimit,
-    }
-}
-
-// The rest of the taker, after that of the sender.
-fn then(last: usize, counted: Counted) -> Rests
-    ensures { result ≡ then_of last counted }
-{
-    match counted {
-        Counted::Names(next) => Rests::At(last, next),
-        Counted::OverLimit => Rests::OverLimit,
-    }
+    let last = after(s, state, sender, taker.next, message, m, out)?;
+    let next = after_taker(s, state, step, last, message, m, out)?;
+    Some(Rests { last, next })
 }
 
 // The private name after those of the rest of a thread that acts, settled at a private name.
@@ -90,17 +76,17 @@ fn after(
     message: &[u8],
     m: &mut [u8],
     out: &[u8],
-) -> Counted
+) -> Option<usize>
     requires { StateFits s.now out.now state }
     ensures written_from { WrittenFrom 0 m.old m.new }
     ensures counts_actor { CountsActor s.now state actor state.names names message.now m.old out.now result }
 {
     let at = actor.at;
     if state.end < 4 {
-        return Counted::OverLimit;
+        return None;
     }
     if state.end - 4 < at {
-        return Counted::OverLimit;
+        return None;
     }
     counting::count(s, message, at, state.names, m, actor.mark, names, out)
 }
@@ -126,7 +112,7 @@ fn after_taker(
     message: &[u8],
     m: &mut [u8],
     out: &[u8],
-) -> Counted
+) -> Option<usize>
     requires { StateFits s.now out.now state }
     ensures written_from { WrittenFrom 0 m.old m.new }
     ensures counts_taker { CountsTaker s.now state step names message.now m.old out.now result }
@@ -136,10 +122,10 @@ fn after_taker(
     let at = taker.at;
     let arity = step.arity;
     if state.end < 4 {
-        return Counted::OverLimit;
+        return None;
     }
     if state.end - 4 < at {
-        return Counted::OverLimit;
+        return None;
     }
     if arity == 0 {
         return counting::count(s, message, at, sender.next, m, taker.mark, names, out);

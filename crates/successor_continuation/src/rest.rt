@@ -6,8 +6,8 @@ ghost use Rattle.successor_continuation.specs.Rest.{SettlesBehind, TakesBehind, 
 ghost use Rattle.index_process.specs.Index.{ShortModel};
 ghost use Rattle.state_layout.specs.Layout.{RecordFits};
 
-use buffer::word;
-use decode_layout::{limit, process_kind};
+use decode_layout::limit;
+use decode_layout::process_kind::ProcessKind;
 use message_binding::bind;
 use message_bytes::run;
 use state_progress::progress;
@@ -40,10 +40,8 @@ fn settle(
     ensures settles_behind { SettlesBehind s.now argument.now at m.old end out.old done result out.new }
 {
     let next = place::rest(s, at);
-    if next < s.len() {
-        if word::wide(s[next]) == process_kind::NIL {
-            return done;
-        }
+    if next < s.len() && matches!(ProcessKind::try_from(s[next]), Ok(ProcessKind::Nil)) {
+        return done;
     }
     traverse::traverse(s, argument, next, NODES, m, end, Task::Settle, out, done)
 }
@@ -91,10 +89,10 @@ pub fn offer(
     ensures written_from_2 { WrittenFrom done.state.end out.old out.new }
     ensures settles_rest { SettlesRest s.now argument.now at m.old end out.old done result out.new }
 {
-    if word::wide(s[at]) == process_kind::INPUT {
-        return receive(s, argument, at, m, end, out, done);
+    match ProcessKind::try_from(s[at]) {
+        Ok(ProcessKind::Input) => receive(s, argument, at, m, end, out, done),
+        _ => settle(s, argument, at, m, end, out, done),
     }
-    settle(s, argument, at, m, end, out, done)
 }
 
 // What follows the thread whose record stands at a position, settled behind what is written already, under the message of the label too if
@@ -119,8 +117,8 @@ pub fn rest(
     if s.len() <= place {
         return progress::stop(done);
     }
-    if word::wide(s[place]) == process_kind::REPL {
-        return progress::stop(done);
+    match ProcessKind::try_from(s[place]) {
+        Ok(ProcessKind::Repl) => progress::stop(done),
+        _ => offer(s, argument, place, m, end, out, done),
     }
-    offer(s, argument, place, m, end, out, done)
 }

@@ -7,8 +7,7 @@ ghost use Rattle.index_process.specs.Index.{ShortModel};
 ghost use Rattle.state_layout.specs.Layout.{RecordFits};
 
 use crate::{counting, rest};
-use buffer::word;
-use decode_layout::process_kind;
+use decode_layout::process_kind::ProcessKind;
 use state_progress::progress;
 use state_progress::progress::Progress;
 use state_task::place;
@@ -27,13 +26,7 @@ fn ends(s: &[u8], mark: usize) -> bool
         return false;
     }
     let next = place::rest(s, at);
-    if s.len() <= next {
-        return false;
-    }
-    if word::wide(s[next]) == process_kind::NIL {
-        return true;
-    }
-    false
+    next < s.len() && matches!(ProcessKind::try_from(s[next]), Ok(ProcessKind::Nil))
 }
 
 // What follows the offer that a way has come to, settled behind what is written already.
@@ -84,7 +77,7 @@ pub fn behind(
             names: done.names,
             mark: done.mark,
             sent: done.sent,
-            state: state,
+            state,
         };
     }
     let offer = counting::arrive(s, at, opens, m, mark, out);

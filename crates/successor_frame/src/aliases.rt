@@ -3,7 +3,6 @@ ghost use Rattle.std.specs.Prelude.{◌≡◌, ◌≤◌};
 ghost use Rattle.buffer.specs.Buffer.{WrittenFrom};
 ghost use Rattle.successor_frame.specs.Aliases.{Copied, Appended, StartsAt, CountsNodes, Carries};
 
-use buffer::slice;
 use message_binding::bind;
 use state_progress::progress::Progress;
 use state_record::record;
@@ -32,7 +31,7 @@ fn copied(state: State, out: &mut [u8]) -> usize
     if long - end < size {
         return end;
     }
-    slice::copy(out, from, end, size);
+    out.copy_within(from..start, end);
     end + size
 }
 

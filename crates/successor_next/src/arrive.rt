@@ -5,16 +5,15 @@ ghost use Rattle.successor_next.specs.Arrive.{LeavesBySending, Leaves, Arrives};
 ghost use Rattle.state_layout.specs.Layout.{StateFits};
 
 use state_record::state::State;
-use state_start::form::Formed;
-use step_label::step::{Label, Next, Step};
+use step_label::step::{Label, Step};
 use step_next::next;
 use successor_state::lead;
 
-// A step, and the state that it leads to; or there is no further step.
+// A step, and the state that it leads to; no state if that is over a limit.
 #[derive(Clone, Copy)]
-pub enum Arrived {
-    By(Step, Formed),
-    None,
+pub struct Arrived {
+    pub step: Step,
+    pub formed: Option<State>,
 }
 
 // Where a step leads that sends the message at the front of a slice. No step sends one that is longer than the slice.
@@ -26,7 +25,7 @@ fn sent(
     stepless: bool,
     m: &mut [u8],
     out: &mut [u8],
-) -> Formed
+) -> Option<State>
     requires { StateFits s.now out.old state }
     ensures written_from { WrittenFrom 0 m.old m.new }
     ensures written_from_2 { WrittenFrom state.end out.old out.new }
@@ -34,7 +33,7 @@ fn sent(
 {
     let size = step.size;
     if message.len() < size {
-        return Formed::OverLimit;
+        return None;
     }
     lead::lead(s, state, step, &message[0..size], stepless, m, out)
 }
@@ -49,17 +48,15 @@ fn led(
     stepless: bool,
     m: &mut [u8],
     out: &mut [u8],
-) -> Formed
+) -> Option<State>
     requires { StateFits s.now out.old state }
     ensures written_from { WrittenFrom 0 m.old m.new }
     ensures written_from_2 { WrittenFrom state.end out.old out.new }
     ensures leaves { Leaves stepless s.now taken.now message.now state step m.old out.old result out.new }
 {
-    let label = step.label;
-    match label {
-        Label::Output => sent(s, state, step, message, stepless, m, out),
+    match step.label {
         Label::Input => lead::lead(s, state, step, taken, stepless, m, out),
-        Label::Silent => sent(s, state, step, message, stepless, m, out),
+        Label::Output | Label::Silent => sent(s, state, step, message, stepless, m, out),
     }
 }
 
@@ -77,7 +74,7 @@ pub fn next(
     out: &mut [u8],
     buffered: &mut [u8],
     message: &mut [u8],
-) -> Arrived
+) -> Option<Arrived>
     requires { StateFits s.now out.old state }
     ensures written_from { WrittenFrom 0 m.old m.new }
     ensures written_from_2 { WrittenFrom state.end out.old out.new }
@@ -85,11 +82,10 @@ pub fn next(
     ensures same_length_2 { SameLength message.old message.new }
     ensures arrives { Arrives stepless s.now channel.now taken.now state step m.old out.old buffered.old message.old result out.new buffered.new message.new }
 {
-    match next::next(s, state, step, channel, m, out, buffered, message) {
-        Next::Found(found) => Arrived::By(
-            found,
-            led(s, state, found, taken, message, stepless, m, out),
-        ),
-        Next::None => Arrived::None,
-    }
+    let found = next::next(s, state, step, channel, m, out, buffered, message)?;
+    let formed = led(s, state, found, taken, message, stepless, m, out);
+    Some(Arrived {
+        step: found,
+        formed,
+    })
 }

@@ -1,6 +1,6 @@
 -- The way from a process down to one of the processes that settling comes to, copies being opened, and the private names that what follows
 -- an offer takes ("Steps"; "Judging and its count").
-use Rattle.std.specs.Prelude.{◌≡◌, Bool, true, false, List, ℕ, suc, ◌+◌, ◌*◌, ◌≤◌, ◌<◌, length, get_or}
+use Rattle.std.specs.Prelude.{◌≡◌, Bool, true, false, List, Option, ℕ, suc, ◌+◌, ◌*◌, ◌≤◌, ◌<◌, length, get_or}
 use Rattle.meaning.specs.Messages.Term.{Term, leaf, private, Message}
 use Rattle.meaning.specs.Messages.Normal.{equal}
 use Rattle.meaning.specs.Bytes.Process.{Process}
@@ -13,7 +13,6 @@ use Rattle.state_record.specs.Place.{ProcessAt, then_at, else_at, body_at, right
 use Rattle.state_head.specs.News.{news, later_news}
 use Rattle.state_head.specs.Head.{CanSettle}
 use Rattle.state_head.specs.Count.{count_of}
-use Rattle.state_head.specs.declared.count.Counted.{Counted}
 use Rattle.step_located.specs.Located.{LocatedOffer}
 use Rattle.step_located.specs.Sought.{Opened}
 use Rattle.step_transition.specs.Outcome.{bound_after}
@@ -121,6 +120,6 @@ pub record Goes (s : List ℕ) (f : Way) (mark : ℕ) (r : Bool) : Type 0 where
   pub done : r ≡ false → 1 ≤ f.left → f.at + 1 ≡ mark
 
 -- Whatever output or input stands there, the answer is that for what follows it, under the message of the label too if it is an input.
-pub record CountsRest (s argument : List ℕ) (at left : ℕ) (m : List ℕ) (end n : ℕ) (r : Counted) : Type 0 where
+pub record CountsRest (s argument : List ℕ) (at left : ℕ) (m : List ℕ) (end n : ℕ) (r : Option ℕ) : Type 0 where
   pub exact : (a : LocatedOffer) (x : Message) → Prepared s at left m end (Process.act a.prefix a.rest) a.bound → IsRunOf argument x
       → n + news a.rest ≤ 32760 → r ≡ count_of a.rest (bound_after x a) n

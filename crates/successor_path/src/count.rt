@@ -5,11 +5,9 @@ ghost use Rattle.buffer.specs.Buffer.{WrittenFrom};
 ghost use Rattle.successor_path.specs.Reach.{Takes, CountsRest};
 ghost use Rattle.state_head.specs.Head.{BoundFits};
 
-use buffer::word;
-use decode_layout::process_kind;
+use decode_layout::process_kind::ProcessKind;
 use message_binding::bind;
 use message_bytes::run;
-use state_head::count::Counted;
 use state_head::{count, head};
 use state_task::place;
 
@@ -19,14 +17,11 @@ pub fn taken(s: &[u8], at: usize, left: usize, m: &mut [u8], end: usize, names: 
     ensures written_from { WrittenFrom end m.old m.new }
     ensures takes { Takes s.now at left m.old end names result }
 {
-    match count::count(s, at, left, m, end, names) {
-        Counted::Names(next) => next,
-        Counted::OverLimit => names,
-    }
+    count::count(s, at, left, m, end, names).unwrap_or(names)
 }
 
 // The private names of what follows the output or the input at a position, settled at the private name names, under the message of the label
-// too if it is an input.
+// too if it is an input; none where a limit is met.
 pub fn rest(
     s: &[u8],
     argument: &[u8],
@@ -35,26 +30,26 @@ pub fn rest(
     m: &mut [u8],
     end: usize,
     names: usize,
-) -> Counted
+) -> Option<usize>
     requires { BoundFits s.now m.old end }
     ensures written_from { WrittenFrom end m.old m.new }
     ensures counts_rest { CountsRest s.now argument.now at left m.old end names result }
 {
     if left == 0 {
-        return Counted::OverLimit;
+        return None;
     }
     if s.len() <= at {
-        return Counted::OverLimit;
+        return None;
     }
     if m.len() - end < head::REACH {
-        return Counted::OverLimit;
+        return None;
     }
     let next = place::rest(s, at);
-    if word::wide(s[at]) == process_kind::OUTPUT {
+    if matches!(ProcessKind::try_from(s[at]), Ok(ProcessKind::Output)) {
         return count::count(s, next, left - 1, m, end, names);
     }
     if run::LENGTH < argument.len() {
-        return Counted::OverLimit;
+        return None;
     }
     let last = bind::message(argument, m, end);
     count::count(s, next, left - 1, m, last, names)

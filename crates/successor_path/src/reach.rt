@@ -7,8 +7,8 @@ ghost use Rattle.state_head.specs.Head.{RoomAtNode};
 ghost use Rattle.index_process.specs.Index.{ShortModel};
 
 use crate::count;
-use buffer::word;
-use decode_layout::{ends, process_kind};
+use decode_layout::ends;
+use decode_layout::process_kind::ProcessKind;
 use index_process::index;
 use message_binding::bind;
 use message_term::work::Worked;
@@ -33,7 +33,7 @@ fn nowhere(end: usize) -> Way
     Way {
         at: 0,
         left: 0,
-        end: end,
+        end,
         names: 0,
         opens: 0,
     }
@@ -72,17 +72,13 @@ fn branch(s: &[u8], way: Way, mark: usize) -> Way
         return Way {
             at: first,
             left: way.left - 1,
-            end: way.end,
-            names: way.names,
-            opens: way.opens,
+            ..way
         };
     }
     Way {
         at: index::end(s, first),
         left: way.left - 1,
-        end: way.end,
-        names: way.names,
-        opens: way.opens,
+        ..way
     }
 }
 
@@ -94,15 +90,15 @@ fn bound(s: &[u8], way: Way, m: &mut [u8]) -> Way
     ensures leads_past_any { LeadsPastAny 5 s.now m.old way result m.new }
 {
     let end = way.end;
-    match bind::term(s, way.at + 1, m, 0, end) {
-        Worked::Done(next, last) => Way {
-            at: next,
-            left: way.left - 1,
-            end: last,
-            names: way.names,
-            opens: way.opens,
-        },
-        Worked::TooLarge => nowhere(end),
+    let Some(Worked { next, end: last }) = bind::term(s, way.at + 1, m, 0, end) else {
+        return nowhere(end);
+    };
+    Way {
+        at: next,
+        left: way.left - 1,
+        end: last,
+        names: way.names,
+        opens: way.opens,
     }
 }
 
@@ -119,18 +115,18 @@ fn side(s: &[u8], way: Way, m: &mut [u8], mark: usize) -> Way
     let names = way.names;
     if place::contains(s, at, mark) {
         return Way {
-            at: at,
-            left: left,
-            end: end,
-            names: names,
+            at,
+            left,
+            end,
+            names,
             opens: way.opens,
         };
     }
     let later = count::taken(s, at, left, m, end, names);
     Way {
         at: index::end(s, at),
-        left: left,
-        end: end,
+        left,
+        end,
         names: later,
         opens: way.opens,
     }
@@ -149,9 +145,9 @@ fn copy(s: &[u8], way: Way, m: &mut [u8]) -> Way
     let opens = way.opens;
     let later = count::taken(s, at, left, m, end, opens);
     Way {
-        at: at,
-        left: left,
-        end: end,
+        at,
+        left,
+        end,
         names: opens,
         opens: later,
     }
@@ -164,24 +160,14 @@ fn below(s: &[u8], way: Way, m: &mut [u8], mark: usize) -> Way
     ensures written_from { WrittenFrom way.end m.old m.new }
     ensures leads_past { LeadsPast s.now m.old way mark result m.new }
 {
-    let at = way.at;
-    let kind = word::wide(s[at]);
-    if kind == process_kind::NEW {
-        return new(way, m);
+    match ProcessKind::try_from(s[way.at]) {
+        Ok(ProcessKind::New) => new(way, m),
+        Ok(ProcessKind::If) => branch(s, way, mark),
+        Ok(ProcessKind::Let) => bound(s, way, m),
+        Ok(ProcessKind::Par) => side(s, way, m, mark),
+        Ok(ProcessKind::Repl) => copy(s, way, m),
+        _ => nowhere(way.end),
     }
-    if kind == process_kind::IF {
-        return branch(s, way, mark);
-    }
-    if kind == process_kind::LET {
-        return bound(s, way, m);
-    }
-    if kind == process_kind::PAR {
-        return side(s, way, m, mark);
-    }
-    if kind == process_kind::REPL {
-        return copy(s, way, m);
-    }
-    nowhere(way.end)
 }
 
 // The same, if a process stands there, with room to work terms.
@@ -205,16 +191,7 @@ fn step(s: &[u8], way: Way, m: &mut [u8], mark: usize) -> Way
 fn goes(s: &[u8], way: Way, mark: usize) -> bool
     ensures { Goes s.now way mark result }
 {
-    if way.left == 0 {
-        return false;
-    }
-    if s.len() <= way.at {
-        return true;
-    }
-    if way.at + 1 == mark {
-        return false;
-    }
-    true
+    way.left != 0 && (s.len() <= way.at || way.at + 1 != mark)
 }
 
 // From what a way has come to down to the process at the mark.

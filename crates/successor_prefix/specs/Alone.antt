@@ -1,5 +1,5 @@
 -- The state that an output or an input of a thread leads to that acts itself ("Steps"; "Judging and its count").
-use Rattle.std.specs.Prelude.{◌≡◌, Bool, true, false, List, ◌∷◌, ◌++◌, ℕ, ◌+◌, ◌/◌, ◌≤◌, length, get_or}
+use Rattle.std.specs.Prelude.{◌≡◌, Bool, true, false, List, ◌∷◌, ◌++◌, ℕ, ◌+◌, ◌/◌, ◌≤◌, length, get_or, Option}
 use Rattle.meaning.specs.Messages.Term.{Message}
 use Rattle.meaning.specs.Steps.State.{State}
 use Rattle.buffer.specs.Word.{number_at}
@@ -11,7 +11,6 @@ use Rattle.state_progress.specs.declared.progress.Progress.{Progress}
 use Rattle.state_start.specs.Form.{Forms}
 use Rattle.state_layout.specs.Loaded.{IsRunOf}
 use Rattle.successor_continuation.specs.Rest.{settled_behind}
-use Rattle.state_start.specs.declared.form.Formed.{Formed}
 use Rattle.step_located.specs.Located.{LocatedOffer}
 use Rattle.step_located.specs.Rebuilt.{nodes_of, push_all}
 use Rattle.step_transition.specs.Focus.{Focus, record_at}
@@ -69,12 +68,12 @@ pub record Around (out : List ℕ) (st : code.State) (at next : ℕ) (q : Bool) 
       → BlockOf out st.start p.before b.before × BlockOf out next p.behind b.behind
 
 -- Whatever step of such a thread this is: the state that it leads to.
-pub record LeadsAlone (s : List ℕ) (st : code.State) (q : Bool) (u : Actor) (message m out : List ℕ) (r : Formed) (after : List ℕ) : Type 0 where
+pub record LeadsAlone (s : List ℕ) (st : code.State) (q : Bool) (u : Actor) (message m out : List ℕ) (r : Option code.State) (after : List ℕ) : Type 0 where
   pub exact : (v : step.Step) (S : State) (h : WithinLimits s out st S) (x : Message) (p : Focus) (a : LocatedOffer)
       → Moving s out st S h v x (alone p a) message → q ≡ sends v.label → u ≡ actor st.start p a → (get_or s p.thread.place 0 ≡ 7 → ⊥)
       → Leading s st S m out → Forms s st.end (arrival_of S (outcome h.at.placed S.next x (alone p a))) r after
 
 -- The same, if the record of the thread ends there.
-pub record LeadsUntil (s : List ℕ) (st : code.State) (q : Bool) (u : Actor) (next : ℕ) (message m out : List ℕ) (r : Formed) (after : List ℕ)
+pub record LeadsUntil (s : List ℕ) (st : code.State) (q : Bool) (u : Actor) (next : ℕ) (message m out : List ℕ) (r : Option code.State) (after : List ℕ)
     : Type 0 where
   pub exact : {n : ℕ} → n ≡ number_at out (u.at + 2) → next ≡ u.at + 4 + n → LeadsAlone s st q u message m out r after

@@ -15,7 +15,6 @@ use state_progress::progress::Progress;
 use state_record::record;
 use state_record::state::State;
 use state_start::form;
-use state_start::form::Formed;
 use step_label::step::Actor;
 use successor_continuation::rest;
 use successor_frame::aliases;
@@ -102,16 +101,6 @@ fn others(state: State, sends: bool, size: usize, begun: Progress, own: usize) -
     state.nodes - aliases - own
 }
 
-// One less than so many threads, if there are any.
-fn less(threads: usize) -> usize
-    ensures { result ≡ threads - 1 }
-{
-    if threads == 0 {
-        return 0;
-    }
-    threads - 1
-}
-
 // The blocks around the thread whose record stands from a position to another. The next state has begun.
 fn around(
     out: &[u8],
@@ -128,7 +117,7 @@ fn around(
 {
     let own = record::nodes(&out[at + 4..next]);
     let nodes = others(state, sends, size, begun, own);
-    let threads = less(state.threads);
+    let threads = state.threads.saturating_sub(1);
     halves::halve(out, state.start, at, next, state.end, threads, nodes)
 }
 
@@ -142,7 +131,7 @@ fn begin(
     message: &[u8],
     m: &mut [u8],
     out: &mut [u8],
-) -> Formed
+) -> Option<State>
     requires { (ShortModel s.now) × (state.end ≤ length out.old) × (state.start ≤ actor.at) × (actor.at + 4 ≤ next) × (next ≤ state.end) }
     ensures written_from { WrittenFrom 0 m.old m.new }
     ensures written_from_2 { WrittenFrom state.end out.old out.new }
@@ -163,7 +152,7 @@ pub fn form(
     message: &[u8],
     m: &mut [u8],
     out: &mut [u8],
-) -> Formed
+) -> Option<State>
     requires { StateFits s.now out.old state }
     ensures written_from { WrittenFrom 0 m.old m.new }
     ensures written_from_2 { WrittenFrom state.end out.old out.new }
@@ -171,17 +160,17 @@ pub fn form(
 {
     let at = actor.at;
     if at < state.start {
-        return Formed::OverLimit;
+        return None;
     }
     if state.end < 4 {
-        return Formed::OverLimit;
+        return None;
     }
     if state.end - 4 < at {
-        return Formed::OverLimit;
+        return None;
     }
     let next = at + 4 + word::number(out, at + 2);
     if state.end < next {
-        return Formed::OverLimit;
+        return None;
     }
     begin(s, state, sends, actor, next, message, m, out)
 }

@@ -4,7 +4,7 @@ ghost use Rattle.buffer.specs.Buffer.{WrittenFrom};
 ghost use Rattle.state_progress.specs.Progress.{Extends};
 ghost use Rattle.successor_rebuild.specs.Block.{Still, Halts, HasRoom, Keeps, KeepsOn};
 
-use buffer::{slice, word};
+use buffer::word;
 use state_progress::progress;
 use state_progress::progress::Progress;
 use state_record::record;
@@ -33,9 +33,9 @@ pub fn measure(out: &[u8], at: usize, to: usize, first: usize, second: usize) ->
         let next = end + 4 + word::number(out, end + 2);
         if to < next {
             return Block {
-                end: end,
-                threads: threads,
-                nodes: nodes,
+                end,
+                threads,
+                nodes,
             };
         }
         nodes += record::nodes(&out[end + 4..next]);
@@ -43,9 +43,9 @@ pub fn measure(out: &[u8], at: usize, to: usize, first: usize, second: usize) ->
         end = next;
     }
     Block {
-        end: end,
-        threads: threads,
-        nodes: nodes,
+        end,
+        threads,
+        nodes,
     }
 }
 
@@ -54,25 +54,13 @@ fn fits(state: State, block: Block, at: usize, long: usize) -> bool
     requires { at ≤ block.end }
     ensures { HasRoom state block at long result }
 {
-    if State::THREADS < state.threads {
-        return false;
-    }
-    if State::THREADS - state.threads < block.threads {
-        return false;
-    }
-    if State::NODES < state.nodes {
-        return false;
-    }
-    if State::NODES - state.nodes < block.nodes {
-        return false;
-    }
-    if state.end < block.end {
-        return false;
-    }
-    if long < state.end {
-        return false;
-    }
-    block.end - at <= long - state.end
+    state.threads <= State::THREADS
+        && block.threads <= State::THREADS - state.threads
+        && state.nodes <= State::NODES
+        && block.nodes <= State::NODES - state.nodes
+        && block.end <= state.end
+        && state.end <= long
+        && block.end - at <= long - state.end
 }
 
 // The block, whose records begin at a position, written once more behind the state that is being written.
@@ -89,14 +77,12 @@ pub fn keep(out: &mut [u8], at: usize, block: Block, done: Progress) -> Progress
     let last = state.end;
     let size = block.end - at;
     let further = State {
-        aliases: state.aliases,
-        start: state.start,
         end: last + size,
         threads: state.threads + block.threads,
         nodes: state.nodes + block.nodes,
-        names: state.names,
+        ..state
     };
-    slice::copy(out, at, last, size);
+    out.copy_within(at..block.end, last);
     Progress {
         going: true,
         names: done.names,

@@ -3,22 +3,16 @@ ghost use Rattle.std.specs.Prelude.{◌≤◌, length};
 ghost use Rattle.successor_rebuild.specs.Kind.{ActsItself};
 
 use buffer::word;
-use decode_layout::process_kind;
+use decode_layout::process_kind::ProcessKind;
 
 // Whether the thread acts itself whose record stands at a position, before another one.
 pub fn acts(s: &[u8], to: usize, at: usize, out: &[u8]) -> bool
     requires { to ≤ length out.now }
     ensures { ActsItself s.now at out.now result }
 {
-    if to < 4 {
-        return false;
-    }
-    if to - 4 < at {
+    if to < 4 || to - 4 < at {
         return false;
     }
     let place = word::number(out, at);
-    if s.len() <= place {
-        return false;
-    }
-    word::wide(s[place]) != process_kind::REPL
+    place < s.len() && !matches!(ProcessKind::try_from(s[place]), Ok(ProcessKind::Repl))
 }

@@ -39,7 +39,7 @@ fn act(
 
 // The threads whose records stand from a position to another: a task is done at the record at the position first, another one at the
 // position second. First come those that do not act.
-#[cycle(rebuild_rest)]
+#[cycle(rebuilding)]
 pub fn rebuild(
     s: &[u8],
     argument: &[u8],
@@ -74,7 +74,7 @@ pub fn rebuild(
 }
 
 // The same where the first of them acts, if there is one.
-#[cycle(rebuild_rest)]
+#[cycle(rebuilding)]
 fn rest(
     s: &[u8],
     argument: &[u8],

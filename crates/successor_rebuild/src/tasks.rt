@@ -34,10 +34,8 @@ fn sending(mark: usize, rest: usize) -> Plan
 {
     Plan {
         sender: mark,
-        taker: 0,
-        second: 0,
-        rest: rest,
-        last: 0,
+        rest,
+        ..still()
     }
 }
 
@@ -45,11 +43,9 @@ fn taking(mark: usize, rest: usize) -> Plan
     ensures { result ≡ plan 0 mark 0 0 rest }
 {
     Plan {
-        sender: 0,
         taker: mark,
-        second: 0,
-        rest: 0,
         last: rest,
+        ..still()
     }
 }
 
@@ -73,7 +69,7 @@ fn assign_silent(step: Step, last: usize, names: usize) -> Tasks
         taker: taker.mark,
         second: sender.next,
         rest: taker.next,
-        last: last,
+        last,
     };
     Tasks {
         first: sender.at,
@@ -111,9 +107,5 @@ pub fn assign(step: Step, last: usize, names: usize) -> Tasks
 pub fn sends(label: Label) -> bool
     ensures { result ≡ sends label }
 {
-    match label {
-        Label::Output => true,
-        Label::Input => false,
-        Label::Silent => false,
-    }
+    label == Label::Output
 }

@@ -6,7 +6,6 @@ ghost use Rattle.state_layout.specs.Layout.{StateFits};
 
 use state_record::state::State;
 use state_start::form;
-use state_start::form::Formed;
 use state_task::task::Task;
 use step_label::step::{Actor, Label, Step};
 use successor_continuation::names;
@@ -21,20 +20,19 @@ fn build(
     s: &[u8],
     state: State,
     step: Step,
-    last: usize,
-    next: usize,
+    rests: Rests,
     message: &[u8],
     m: &mut [u8],
     out: &mut [u8],
-) -> Formed
+) -> Option<State>
     requires { StateFits s.now out.old state }
     ensures written_from { WrittenFrom 0 m.old m.new }
     ensures written_from_2 { WrittenFrom state.end out.old out.new }
-    ensures leads_at { LeadsAt s.now state step last next message.now m.old out.old result out.new }
+    ensures leads_at { LeadsAt s.now state step rests.last rests.next message.now m.old out.old result out.new }
 {
     let label = step.label;
-    let begun = aliases::carry(state, tasks::sends(label), message, next, out);
-    let todo = tasks::assign(step, last, state.names);
+    let begun = aliases::carry(state, tasks::sends(label), message, rests.next, out);
+    let todo = tasks::assign(step, rests.last, state.names);
     let task: Task = todo.task;
     let other: Task = todo.other;
     form::finish(rebuild::rebuild(
@@ -53,16 +51,21 @@ fn build(
 }
 
 // The state that a step leads to, with its threads: first the names of its rests are counted.
-fn named(s: &[u8], state: State, step: Step, message: &[u8], m: &mut [u8], out: &mut [u8]) -> Formed
+fn named(
+    s: &[u8],
+    state: State,
+    step: Step,
+    message: &[u8],
+    m: &mut [u8],
+    out: &mut [u8],
+) -> Option<State>
     requires { StateFits s.now out.old state }
     ensures written_from { WrittenFrom 0 m.old m.new }
     ensures written_from_2 { WrittenFrom state.end out.old out.new }
     ensures leads { Leads s.now state step message.now m.old out.old result out.new }
 {
-    match names::rest_names(s, state, step, message, m, out) {
-        Rests::At(last, next) => build(s, state, step, last, next, message, m, out),
-        Rests::OverLimit => Formed::OverLimit,
-    }
+    let rests = names::rest_names(s, state, step, message, m, out)?;
+    build(s, state, step, rests, message, m, out)
 }
 
 // The same of an output or an input: a thread that acts itself is replaced at once.
@@ -74,7 +77,7 @@ fn one(
     message: &[u8],
     m: &mut [u8],
     out: &mut [u8],
-) -> Formed
+) -> Option<State>
     requires { StateFits s.now out.old state }
     ensures written_from { WrittenFrom 0 m.old m.new }
     ensures written_from_2 { WrittenFrom state.end out.old out.new }
@@ -88,7 +91,14 @@ fn one(
 }
 
 // The state that a step leads to, with its threads.
-fn whole(s: &[u8], state: State, step: Step, message: &[u8], m: &mut [u8], out: &mut [u8]) -> Formed
+fn whole(
+    s: &[u8],
+    state: State,
+    step: Step,
+    message: &[u8],
+    m: &mut [u8],
+    out: &mut [u8],
+) -> Option<State>
     requires { StateFits s.now out.old state }
     ensures written_from { WrittenFrom 0 m.old m.new }
     ensures written_from_2 { WrittenFrom state.end out.old out.new }
@@ -112,7 +122,7 @@ pub fn lead(
     stepless: bool,
     m: &mut [u8],
     out: &mut [u8],
-) -> Formed
+) -> Option<State>
     requires { StateFits s.now out.old state }
     ensures written_from { WrittenFrom 0 m.old m.new }
     ensures written_from_2 { WrittenFrom state.end out.old out.new }
@@ -120,8 +130,8 @@ pub fn lead(
 {
     if stepless {
         return match threadless::form(s, state, step, message, m, out) {
-            Formed::At(threadless) => Formed::At(threadless),
-            Formed::OverLimit => whole(s, state, step, message, m, out),
+            Some(threadless) => Some(threadless),
+            None => whole(s, state, step, message, m, out),
         };
     }
     whole(s, state, step, message, m, out)

@@ -1,5 +1,5 @@
 -- The state that a step leads to without its threads, and what follows the processes that act, settled by itself ("Judging and its count").
-use Rattle.std.specs.Prelude.{◌≡◌, Bool, true, false, List, [], ◌∷◌, ◌++◌, ℕ, ◌+◌, ◌≤◌}
+use Rattle.std.specs.Prelude.{◌≡◌, Bool, true, false, List, [], ◌∷◌, ◌++◌, ℕ, ◌+◌, ◌≤◌, Option, Some}
 use Rattle.meaning.specs.Messages.Term.{Message}
 use Rattle.meaning.specs.Steps.State.{State}
 use Rattle.meaning.specs.Judging.Visits.{Arrival, arrived}
@@ -10,8 +10,6 @@ use Rattle.state_record.specs.declared.state.State as code
 use Rattle.state_progress.specs.declared.progress.Progress.{Progress}
 use Rattle.state_layout.specs.Layout.{StateAt, over_arrival}
 use Rattle.state_layout.specs.Loaded.{nothing_yet, IsRunOf}
-use Rattle.state_start.specs.declared.form.Formed.{Formed}
-use Rattle.state_start.specs.declared.form.Formed.TheVariants.{At}
 use Rattle.state_task.specs.declared.task.Task.TheVariants.{Settle}
 use Rattle.state_head.specs.Traversal.{go}
 use Rattle.step_located.specs.Located.{LocatedOffer}
@@ -94,8 +92,8 @@ pub record Fits (st : code.State) (e : Excess) (r : Progress) (size : ℕ) (b : 
   pub room : b ≡ true → RoomForStep st e r size
 
 -- If a state is formed, the one that the step leads to is within its limits, and this is that state without its threads.
-pub record FormsThreadless (s : List ℕ) (st : code.State) (v : step.Step) (message m out : List ℕ) (r : Formed) (after : List ℕ) : Type 0 where
+pub record FormsThreadless (s : List ℕ) (st : code.State) (v : step.Step) (message m out : List ℕ) (r : Option code.State) (after : List ℕ) : Type 0 where
   pub exact : (S : State) (h : WithinLimits s out st S) (x : Message) (w : Move) → Moving s out st S h v x w message → Leading s st S m out
-      → (threadless : code.State) → r ≡ At threadless
+      → (threadless : code.State) → r ≡ Some threadless
       → let A = arrival_of S (outcome h.at.placed S.next x w) in
       (over_arrival A ≡ false) × StateAt s after threadless (threadless_of A).state × (threadless.aliases ≡ st.end)

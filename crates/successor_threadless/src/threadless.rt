@@ -13,7 +13,6 @@ use state_progress::progress;
 use state_progress::progress::Progress;
 use state_record::state::State;
 use state_start::form;
-use state_start::form::Formed;
 use step_label::step::{Actor, Label, Step};
 use successor_continuation::{names, settled};
 use successor_frame::aliases;
@@ -210,7 +209,7 @@ pub fn form(
     message: &[u8],
     m: &mut [u8],
     out: &mut [u8],
-) -> Formed
+) -> Option<State>
     requires { StateFits s.now out.old state }
     ensures written_from { WrittenFrom 0 m.old m.new }
     ensures written_from_2 { WrittenFrom state.end out.old out.new }
@@ -219,11 +218,11 @@ pub fn form(
     let label = step.label;
     let added = excess::of_step(s, state, step, out);
     if State::THREADS < added.threads {
-        return Formed::OverLimit;
+        return None;
     }
     let rests = settle(s, state, step, message, m, out);
     if fits(state, added, rests, message.len()) {
         return form::finish(aliases::carry(state, tasks::sends(label), message, rests.names, out));
     }
-    Formed::OverLimit
+    None
 }

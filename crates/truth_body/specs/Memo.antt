@@ -1,5 +1,5 @@
 -- What a body without steps comes to wherever a step leads ("Judging and its count").
-use Rattle.std.specs.Prelude.{◌≡◌, Bool, true, false, ◌++◌, ℕ, ◌≤◌, length}
+use Rattle.std.specs.Prelude.{◌≡◌, Bool, true, false, Option, ◌++◌, ℕ, ◌≤◌, length, Some, None}
 use Rattle.meaning.specs.Bytes.Formula.{Label, Formula}
 use Rattle.meaning.specs.Bytes.Nesting.{step_depth}
 use Rattle.meaning.specs.Bytes.Scope.{binds_label}
@@ -8,8 +8,6 @@ use Rattle.meaning.specs.Judging.{judge}
 use Rattle.meaning.specs.Judging.Visits.{Arrival}
 use Rattle.state_record.specs.declared.state.State as code
 use Rattle.state_layout.specs.Layout.{over_arrival}
-use Rattle.state_start.specs.declared.form.Formed.{Formed}
-use Rattle.state_start.specs.declared.form.Formed.TheVariants.{At, OverLimit}
 use Rattle.step_label.specs.declared.step.Label as step_label
 use Rattle.step_label.specs.declared.step.Label.TheVariants.{Output, Input, Silent}
 use Rattle.truth_body.specs.Judged.{judged_of}
@@ -37,19 +35,19 @@ beginning Input stepless = alike_if stepless
 beginning Silent stepless = alike_if stepless
 
 -- What is known once a body has come to something at what was formed.
-abbrev pub first_of : Formed → (t l : Bool) → (n : ℕ) → Memo
-first_of (At st) t l n = Each t l n
-first_of OverLimit t l n = Alike
+abbrev pub first_of : Option code.State → (t l : Bool) → (n : ℕ) → Memo
+first_of (Some st) t l n = Each t l n
+first_of None t l n = Alike
 
-abbrev pub memoised : Memo → Formed → (t l : Bool) → (n : ℕ) → Memo
+abbrev pub memoised : Memo → Option code.State → (t l : Bool) → (n : ℕ) → Memo
 memoised Open formed t l n = Open
 memoised Alike formed t l n = first_of formed t l n
 memoised (Each t' l' n') formed t l n = Each t' l' n'
 
 -- What applies to what was formed is known, and a state was formed.
-pub record Applies (memo : Memo) (formed : Formed) (r : Memo) : Type 0 where
-  pub there : (t l : Bool) (n : ℕ) → r ≡ Each t l n → (memo ≡ Each t l n) × ((st : code.State) × (formed ≡ At st))
+pub record Applies (memo : Memo) (formed : Option code.State) (r : Memo) : Type 0 where
+  pub there : (t l : Bool) (n : ℕ) → r ≡ Each t l n → (memo ≡ Each t l n) × ((st : code.State) × (formed ≡ Some st))
 
 -- A judgement with its visits taken off a budget.
-pub record Charges (t l : Bool) (n left : ℕ) (r : Judged) : Type 0 where
+pub record Charges (t l : Bool) (n left : ℕ) (r : Option Judged) : Type 0 where
   pub exact : 1 ≤ n → r ≡ judged_of left (record { truth = t; count = n; limited = l })

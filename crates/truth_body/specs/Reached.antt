@@ -1,11 +1,9 @@
 -- A state that judging has come to, and room for what follows it ("Judging and its count").
-use Rattle.std.specs.Prelude.{◌≡◌, true, false, List, ℕ, ◌+◌, ◌*◌, ◌≤◌, length}
+use Rattle.std.specs.Prelude.{◌≡◌, true, false, List, ℕ, ◌+◌, ◌*◌, ◌≤◌, length, Option, Some, None}
 use Rattle.meaning.specs.Judging.Visits.{Arrival}
 use Rattle.buffer.specs.Buffer.{Within}
 use Rattle.state_record.specs.declared.state.State as code
 use Rattle.state_layout.specs.Layout.{over_arrival}
-use Rattle.state_start.specs.declared.form.Formed.{Formed}
-use Rattle.state_start.specs.declared.form.Formed.TheVariants.{At, OverLimit}
 use Rattle.step_transition.specs.WithinLimits.{WithinLimits}
 use Rattle.index_process.specs.Index.{ShortModel}
 
@@ -28,11 +26,11 @@ pub record Here (s out : List ℕ) (st : code.State) (A : Arrival) (steps : ℕ)
   pub few : length A.state.aliases + steps ≤ 16
 
 -- The same of what was formed: it may be over a limit.
-abbrev pub Reached : (s out : List ℕ) → Formed → Arrival → (steps : ℕ) → Type 0
-Reached s out (At st) A steps = Here s out st A steps
-Reached s out OverLimit A steps = over_arrival A ≡ true
+abbrev pub Reached : (s out : List ℕ) → Option code.State → Arrival → (steps : ℕ) → Type 0
+Reached s out (Some st) A steps = Here s out st A steps
+Reached s out None A steps = over_arrival A ≡ true
 
 -- No byte of the state or before it is changed, and none at all where there is no state.
-abbrev pub Unchanged : Formed → (out after : List ℕ) → Type 0
-Unchanged (At st) out after = Within st.end (length out) out after
-Unchanged OverLimit out after = Within (length out) (length out) out after
+abbrev pub Unchanged : Option code.State → (out after : List ℕ) → Type 0
+Unchanged (Some st) out after = Within st.end (length out) out after
+Unchanged None out after = Within (length out) (length out) out after

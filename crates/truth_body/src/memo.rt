@@ -5,7 +5,7 @@ ghost use Rattle.truth_body.specs.Judged.{Less};
 ghost use Rattle.truth_body.specs.Memo.{alike_if, beginning, first_of, memoised, Applies, Charges};
 
 use crate::judged::Judged;
-use state_start::form::Formed;
+use state_record::state::State;
 use step_label::step::Label;
 
 // Nothing; only that it comes to the same at all states within their limits that the steps lead to; or what it comes to there: its truth,
@@ -14,7 +14,11 @@ use step_label::step::Label;
 pub enum Memo {
     Open,
     Alike,
-    Each(bool, bool, u32),
+    Each {
+        truth: bool,
+        limited: bool,
+        visits: u32,
+    },
 }
 
 // What is known before the first step.
@@ -23,8 +27,7 @@ pub fn begin(label: Label, stepless: bool) -> Memo
 {
     match label {
         Label::Output => Memo::Open,
-        Label::Input => alike(stepless),
-        Label::Silent => alike(stepless),
+        Label::Input | Label::Silent => alike(stepless),
     }
 }
 
@@ -39,46 +42,51 @@ fn alike(stepless: bool) -> Memo
 }
 
 // What is known at what was formed: nothing if that is over a limit.
-pub fn applicable(memo: Memo, formed: Formed) -> Memo
+pub fn applicable(memo: Memo, formed: Option<State>) -> Memo
     ensures { Applies memo formed result }
 {
     match formed {
-        Formed::At(_) => memo,
-        Formed::OverLimit => Memo::Open,
+        Some(_) => memo,
+        None => Memo::Open,
     }
 }
 
 // What is known, its visits being taken off a budget. There is no judgement without a visit.
-pub fn charge(truth: bool, limited: bool, visits: u32, left: u32) -> Judged
+pub fn charge(truth: bool, limited: bool, visits: u32, left: u32) -> Option<Judged>
     ensures less { Less left result }
     ensures charges { Charges truth limited visits left result }
 {
     if visits == 0 {
-        return Judged::Spent;
+        return None;
     }
-    if left < visits {
-        return Judged::Spent;
-    }
-    Judged::Done(truth, limited, left - visits)
+    let left = left.checked_sub(visits)?;
+    Some(Judged {
+        truth,
+        limited,
+        left,
+    })
 }
 
 // What is known once the body has come to something at what was formed.
-pub fn memoise(memo: Memo, formed: Formed, truth: bool, limited: bool, visits: u32) -> Memo
+pub fn memoise(memo: Memo, formed: Option<State>, truth: bool, limited: bool, visits: u32) -> Memo
     ensures { result ≡ memoised memo formed truth limited visits }
 {
     match memo {
-        Memo::Open => Memo::Open,
         Memo::Alike => first_of(formed, truth, limited, visits),
-        Memo::Each(_, _, _) => memo,
+        Memo::Open | Memo::Each { .. } => memo,
     }
 }
 
 // A judgement at a state within its limits is that at each of them.
-fn first_of(formed: Formed, truth: bool, limited: bool, visits: u32) -> Memo
+fn first_of(formed: Option<State>, truth: bool, limited: bool, visits: u32) -> Memo
     ensures { result ≡ first_of formed truth limited visits }
 {
     match formed {
-        Formed::At(_) => Memo::Each(truth, limited, visits),
-        Formed::OverLimit => Memo::Alike,
+        Some(_) => Memo::Each {
+            truth,
+            limited,
+            visits,
+        },
+        None => Memo::Alike,
     }
 }

@@ -3,46 +3,48 @@ ghost use Rattle.std.specs.Prelude.{◌+◌, ◌≤◌, length};
 ghost use Rattle.truth_body.specs.Judged.{Less};
 ghost use Rattle.truth_judge.specs.Steps.{Stepped, JudgesBody, Counts, Turns, Falls, AllTurns, AllSteps};
 ghost use Rattle.buffer.specs.Buffer.{SameLength};
+ghost use Rattle.decode_layout.specs.Kind.{formula_number};
 ghost use Rattle.truth_body.specs.Reached.{VisitRoom};
 
 use crate::judge;
 use crate::turn::Turn;
+use decode_layout::formula_kind::FormulaKind;
 use index_formula::index;
 use message_bytes::run;
 use state_record::state::State;
-use state_start::form::Formed;
+use std::ops::ControlFlow;
 use step_label::step::Step;
 use step_next::next;
 use successor_next::arrive;
 use successor_next::arrive::Arrived;
-use truth_body::judged::{Judged, Sum};
+use truth_body::judged::Judged;
+use truth_body::memo;
 use truth_body::memo::Memo;
-use truth_body::{judged, memo};
 use truth_label::head;
-use truth_label::head::{Head, Headed};
+use truth_label::head::Head;
 
 // A step formula of a kind, whose fields stand at a position.
-#[cycle(conjunction_judge_negation_node_second_visit_count_judge_body_step_steps_turn_turns)]
+#[cycle(judging)]
 pub(crate) fn step(
     s: &[u8],
     f: &[u8],
-    kind: usize,
+    kind: FormulaKind,
     at: usize,
     depth: usize,
     state: State,
     m: &mut [u8],
     out: &mut [u8],
     left: u32,
-) -> Judged
+) -> Option<Judged>
     requires { VisitRoom s.now out.old state }
     ensures same_length { SameLength m.old m.new }
     ensures same_length_2 { SameLength out.old out.new }
     ensures less { Less (left + 1) result }
-    ensures stepped { Stepped s.now f.now kind at depth state m.old out.old left result out.new }
+    ensures stepped { Stepped s.now f.now (formula_number kind) at depth state m.old out.old left result out.new }
 {
     let mut channel = [0u8; run::LENGTH];
     let mut taken = [0u8; run::LENGTH];
-    match head::work(
+    let Some(head) = head::work(
         f,
         kind,
         at,
@@ -51,29 +53,27 @@ pub(crate) fn step(
         out,
         &mut channel,
         &mut taken,
-    ) {
-        Headed::By(head) => {
-            let c = head.channel;
-            let t = head.taken;
-            steps(
-                s,
-                f,
-                head,
-                depth,
-                state,
-                &channel[0..c],
-                &taken[0..t],
-                m,
-                out,
-                left,
-            )
-        }
-        Headed::TooLarge => Judged::Done(false, true, left),
-    }
+    ) else {
+        return Some(Judged::at_limit(left));
+    };
+    let c = head.channel;
+    let t = head.taken;
+    steps(
+        s,
+        f,
+        head,
+        depth,
+        state,
+        &channel[0..c],
+        &taken[0..t],
+        m,
+        out,
+        left,
+    )
 }
 
 // The body of a step formula, counted at each state that a step of its label leads to.
-#[cycle(conjunction_judge_negation_node_second_visit_count_judge_body_step_steps_turn_turns)]
+#[cycle(judging)]
 fn steps(
     s: &[u8],
     f: &[u8],
@@ -85,7 +85,7 @@ fn steps(
     m: &mut [u8],
     out: &mut [u8],
     left: u32,
-) -> Judged
+) -> Option<Judged>
     requires { VisitRoom s.now out.old state }
     ensures same_length { SameLength m.old m.new }
     ensures same_length_2 { SameLength out.old out.new }
@@ -103,7 +103,7 @@ fn steps(
 
 // All turns, one for each step. What is known of the body, what a step sends and the channel of a silent step of two threads stay from one
 // step to the next.
-#[cycle(conjunction_judge_negation_node_second_visit_count_judge_body_step_steps_turn_turns)]
+#[cycle(judging)]
 fn turns(
     s: &[u8],
     f: &[u8],
@@ -117,7 +117,7 @@ fn turns(
     m: &mut [u8],
     out: &mut [u8],
     left: u32,
-) -> Judged
+) -> Option<Judged>
     requires { VisitRoom s.now out.old state }
     ensures same_length { SameLength m.old m.new }
     ensures same_length_2 { SameLength out.old out.new }
@@ -126,10 +126,10 @@ fn turns(
 {
     let label = head.label;
     let mut from = next::before(label, state);
-    let mut sum = Sum {
+    let mut sum = Judged {
         truth: false,
         limited: false,
-        left: left,
+        left,
     };
     let body = head.body;
     let mut current = memo;
@@ -153,12 +153,12 @@ fn turns(
             &mut message,
             sum,
         ) {
-            Turn::On(found, more, memoised) => {
-                from = found;
-                sum = more;
-                current = memoised;
+            ControlFlow::Continue(turned) => {
+                from = turned.found;
+                sum = turned.sum;
+                current = turned.memo;
             }
-            Turn::End(total) => {
+            ControlFlow::Break(total) => {
                 return total;
             }
         }
@@ -166,7 +166,7 @@ fn turns(
 }
 
 // The body of a step formula, judged at the state that the step after one leads to.
-#[cycle(conjunction_judge_negation_node_second_visit_count_judge_body_step_steps_turn_turns)]
+#[cycle(judging)]
 fn turn(
     s: &[u8],
     f: &[u8],
@@ -182,8 +182,8 @@ fn turn(
     out: &mut [u8],
     buffered: &mut [u8],
     message: &mut [u8],
-    sum: Sum,
-) -> Turn
+    sum: Judged,
+) -> ControlFlow<Option<Judged>, Turn>
     requires { VisitRoom s.now out.old state }
     ensures same_length { SameLength m.old m.new }
     ensures same_length_2 { SameLength out.old out.new }
@@ -195,13 +195,13 @@ fn turn(
     match arrive::next(
         s, state, from, channel, taken, stepless, m, out, buffered, message,
     ) {
-        Arrived::By(found, formed) => count(s, f, body, depth, memo, found, formed, m, out, sum),
-        Arrived::None => Turn::End(Judged::Done(sum.truth, sum.limited, sum.left)),
+        Some(Arrived { step, formed }) => count(s, f, body, depth, memo, step, formed, m, out, sum),
+        None => ControlFlow::Break(Some(sum)),
     }
 }
 
 // The body of a step formula, judged at the state that a step leads to and added to what the steps before it came to.
-#[cycle(conjunction_judge_negation_node_second_visit_count_judge_body_step_steps_turn_turns)]
+#[cycle(judging)]
 fn count(
     s: &[u8],
     f: &[u8],
@@ -209,50 +209,61 @@ fn count(
     depth: usize,
     memo: Memo,
     found: Step,
-    formed: Formed,
+    formed: Option<State>,
     m: &mut [u8],
     out: &mut [u8],
-    sum: Sum,
-) -> Turn
+    sum: Judged,
+) -> ControlFlow<Option<Judged>, Turn>
     ensures same_length { SameLength m.old m.new }
     ensures same_length_2 { SameLength out.old out.new }
     ensures falls { Falls sum.left result }
     ensures counts { Counts memo s.now f.now body depth found formed m.old out.old sum result out.new }
 {
-    match judge_body(s, f, body, depth, memo, formed, m, out, sum.left) {
-        Judged::Done(truth, limited, more) => Turn::On(
-            found,
-            Sum {
-                truth: judged::either(sum.truth, truth),
-                limited: judged::either(sum.limited, limited),
-                left: more,
-            },
-            memo::memoise(memo, formed, truth, limited, sum.left - more),
+    let Some(judged) = judge_body(s, f, body, depth, memo, formed, m, out, sum.left) else {
+        return ControlFlow::Break(None);
+    };
+    ControlFlow::Continue(Turn {
+        found,
+        sum: Judged {
+            truth: sum.truth | judged.truth,
+            limited: sum.limited | judged.limited,
+            left: judged.left,
+        },
+        memo: memo::memoise(
+            memo,
+            formed,
+            judged.truth,
+            judged.limited,
+            sum.left - judged.left,
         ),
-        Judged::Spent => Turn::End(Judged::Spent),
-    }
+    })
 }
 
 // What a body comes to at what was formed, as it is known or by judging it.
-#[cycle(conjunction_judge_negation_node_second_visit_count_judge_body_step_steps_turn_turns)]
+#[cycle(judging)]
 fn judge_body(
     s: &[u8],
     f: &[u8],
     body: usize,
     depth: usize,
     memo: Memo,
-    formed: Formed,
+    formed: Option<State>,
     m: &mut [u8],
     out: &mut [u8],
     left: u32,
-) -> Judged
+) -> Option<Judged>
     ensures same_length { SameLength m.old m.new }
     ensures same_length_2 { SameLength out.old out.new }
     ensures less { Less left result }
     ensures judges_body { JudgesBody memo s.now f.now body depth formed m.old out.old left result out.new }
 {
     let applied = memo::applicable(memo, formed);
-    if let Memo::Each(truth, limited, visits) = applied {
+    if let Memo::Each {
+        truth,
+        limited,
+        visits,
+    } = applied
+    {
         return memo::charge(truth, limited, visits, left);
     }
     judge::judge(s, f, body, depth, formed, m, out, left)

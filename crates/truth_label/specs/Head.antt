@@ -1,5 +1,5 @@
 -- The head of a step formula at a state: its label with the messages of its recipes ("Steps"; "Judging and its count").
-use Rattle.std.specs.Prelude.{◌≡◌, Bool, true, false, List, ℕ, ◌≤◌, length, take}
+use Rattle.std.specs.Prelude.{◌≡◌, Bool, true, false, Option, Some, None, List, ℕ, ◌≤◌, length, take}
 use Rattle.meaning.specs.Messages.Term.{Message, leaf, public}
 use Rattle.meaning.specs.Bytes.Formula.{Label, output, input, silent}
 use Rattle.meaning.specs.Steps.State.{Bound, worked}
@@ -11,8 +11,6 @@ use Rattle.step_label.specs.declared.step.Label as step
 use Rattle.step_label.specs.declared.step.Label.TheVariants.{Output, Input, Silent}
 use Rattle.truth_label.specs.Place.{kind_of, LabelAt}
 use Rattle.truth_label.specs.declared.head.Head as code
-use Rattle.truth_label.specs.declared.head.Headed.{Headed}
-use Rattle.truth_label.specs.declared.head.Headed.TheVariants.{By, TooLarge}
 
 -- What the steps of a label do.
 abbrev pub label_of_step : Label → step.Label
@@ -42,21 +40,21 @@ head_of ρ a body =
     record { label = label_of_step a; body = body; channel = length (encode_message (channel_of ρ a)); taken = taken_size ρ a }
 
 -- The answer: the head, or that a recipe or a part of it is too large.
-unfoldable pub headed_of : Bool → code.Head → Headed
-headed_of true h = TooLarge
-headed_of false h = By h
+unfoldable pub headed_of : Bool → code.Head → Option code.Head
+headed_of true h = None
+headed_of false h = Some h
 
 -- The answer r and the two slices are those for the label a under ρ.
-pub record HeadTo (ρ : Bound) (a : Label) (body : ℕ) (r : Headed) (channel taken : List ℕ) : Type 0 where
+pub record HeadTo (ρ : Bound) (a : Label) (body : ℕ) (r : Option code.Head) (channel taken : List ℕ) : Type 0 where
   pub answer : r ≡ headed_of (over_label ρ a) (head_of ρ a body)
   pub channelled : over_label ρ a ≡ false → IsRunOf (take (head_of ρ a body).channel channel) (channel_of ρ a)
   pub taking : over_label ρ a ≡ false → label_of_step a ≡ Input → IsRunOf (take (head_of ρ a body).taken taken) (taken_of ρ a)
 
 -- That holds for whatever label of the kind stands there and whatever messages are bound at base.
-pub record Heads (f : List ℕ) (kind at base start : ℕ) (out : List ℕ) (r : Headed) (channel taken : List ℕ) : Type 0 where
+pub record Heads (f : List ℕ) (kind at base start : ℕ) (out : List ℕ) (r : Option code.Head) (channel taken : List ℕ) : Type 0 where
   pub exact : (a : Label) {body : ℕ} (ρ : Bound) → kind ≡ kind_of a → LabelAt f at (length ρ) a body → BoundAt out base ρ start
       → HeadTo ρ a body r channel taken
 
 -- In any case the messages are within 510 bytes.
-pub record Short (r : Headed) : Type 0 where
-  pub there : (h : code.Head) → r ≡ By h → (h.channel ≤ 510) × (h.taken ≤ 510)
+pub record Short (r : Option code.Head) : Type 0 where
+  pub there : (h : code.Head) → r ≡ Some h → (h.channel ≤ 510) × (h.taken ≤ 510)

@@ -17,18 +17,17 @@ pub(crate) fn recipe(
     start: usize,
     out: &mut [u8],
     message: &mut [u8],
-) -> Worked
+) -> Option<Worked>
     requires { (base ≤ start) × (start + 4096 ≤ length out.old) × (510 ≤ length message.old) }
     ensures within { Within start (start + 4096) out.old out.new }
     ensures same_length { SameLength message.old message.new }
     ensures reaches { Reaches 0 8 result }
     ensures recipes { Recipes f.now at base start out.old result message.new }
 {
-    match work::term(f, at, out, base, start) {
-        Worked::Done(next, end) => {
-            slice::put(&out[start..end], message, 0);
-            Worked::Done(next, end - start)
-        }
-        Worked::TooLarge => Worked::TooLarge,
-    }
+    let worked = work::term(f, at, out, base, start)?;
+    slice::put(&out[start..worked.end], message, 0);
+    Some(Worked {
+        next: worked.next,
+        end: worked.end - start,
+    })
 }

@@ -1,7 +1,9 @@
 // The answer on a finding, four numbers ("Turned back for the input"; "Turned back for the state").
 ghost use Rattle.std.specs.Prelude.{◌≡◌};
 ghost use Rattle.meaning.specs.Verdict.{answer};
-ghost use Rattle.verdict_input.specs.Answer.{numbers, turned_back};
+ghost use Rattle.verdict_input.specs.Answer.{numbers, turned_back, outcome_number};
+
+use crate::outcome::Outcome;
 
 // The result, 0 for accepted; the slice (1 first model, 2 second, 3 formula, 0 none); the place, a byte offset; and the count.
 #[repr(C)]
@@ -26,11 +28,11 @@ pub fn refusal(number: u32, slice: u32, place: u32) -> Answer
 }
 
 // Turned back for the state, or accepted.
-pub fn outcome(res: u32, count: u32) -> Answer
-    ensures { numbers result ≡ answer res count }
+pub fn outcome(outcome: Outcome, count: u32) -> Answer
+    ensures { numbers result ≡ answer (outcome_number outcome) count }
 {
     Answer {
-        result: res,
+        result: u32::from(outcome),
         slice: 0,
         place: 0,
         count: count,

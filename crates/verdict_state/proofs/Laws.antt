@@ -1,4 +1,3 @@
 -- The laws by which the functions meet their contracts.
 pub mod Judged
-pub mod Clear
 pub mod Model

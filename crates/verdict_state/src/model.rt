@@ -14,7 +14,7 @@ use truth_judge::judge;
 // The formula that stands in the slice f with its index, judged of the model that the slice s is, with a budget of visits. The bytes m are for
 // the messages that are bound on the way, and the work bytes hold the states. The model is judged with its index beside it, which takes fewer
 // bytes for a short one.
-pub fn judge(s: &[u8], f: &[u8], m: &mut [u8], out: &mut [u8], budget: u32) -> Judged
+pub fn judge(s: &[u8], f: &[u8], m: &mut [u8], out: &mut [u8], budget: u32) -> Option<Judged>
     requires { (length s.now ≤ 4096) × (10750 ≤ length m.old) × (65536 ≤ length out.old) }
     ensures same_length { SameLength m.old m.new }
     ensures same_length_2 { SameLength out.old out.new }
@@ -29,7 +29,7 @@ pub fn judge(s: &[u8], f: &[u8], m: &mut [u8], out: &mut [u8], budget: u32) -> J
 }
 
 // The same of a short model.
-fn short(s: &[u8], f: &[u8], m: &mut [u8], out: &mut [u8], budget: u32) -> Judged
+fn short(s: &[u8], f: &[u8], m: &mut [u8], out: &mut [u8], budget: u32) -> Option<Judged>
     requires { (length s.now ≤ 512) × (10750 ≤ length m.old) × (65536 ≤ length out.old) }
     ensures same_length { SameLength m.old m.new }
     ensures same_length_2 { SameLength out.old out.new }
@@ -41,7 +41,14 @@ fn short(s: &[u8], f: &[u8], m: &mut [u8], out: &mut [u8], budget: u32) -> Judge
 }
 
 // The same, where the model is put into a slice with its index.
-fn build(model: &[u8], s: &mut [u8], f: &[u8], m: &mut [u8], out: &mut [u8], budget: u32) -> Judged
+fn build(
+    model: &[u8],
+    s: &mut [u8],
+    f: &[u8],
+    m: &mut [u8],
+    out: &mut [u8],
+    budget: u32,
+) -> Option<Judged>
     requires { (4096 + 8 * length model.now ≤ length s.old) × (ShortModel s.old) × (10750 ≤ length m.old) × (65536 ≤ length out.old) }
     ensures same_length { SameLength m.old m.new }
     ensures same_length_2 { SameLength out.old out.new }
@@ -53,7 +60,7 @@ fn build(model: &[u8], s: &mut [u8], f: &[u8], m: &mut [u8], out: &mut [u8], bud
 }
 
 // The same of a model that stands in a slice with its index.
-fn start(s: &[u8], f: &[u8], m: &mut [u8], out: &mut [u8], budget: u32) -> Judged
+fn start(s: &[u8], f: &[u8], m: &mut [u8], out: &mut [u8], budget: u32) -> Option<Judged>
     requires { (ShortModel s.now) × (10750 ≤ length m.old) × (65536 ≤ length out.old) }
     ensures same_length { SameLength m.old m.new }
     ensures same_length_2 { SameLength out.old out.new }

@@ -5,13 +5,12 @@ ghost use Rattle.verdict_input.specs.Answer.{numbers};
 ghost use Rattle.verdict_state.specs.Models.{JudgesBoth, JudgesBothIndexed};
 ghost use Rattle.buffer.specs.Buffer.{SameLength};
 
-use crate::clear::clear;
 use crate::model;
 use index_formula::index;
 use state_head::head;
-use truth_body::judged::Judged;
 use verdict_input::answer;
 use verdict_input::answer::Answer;
+use verdict_input::outcome::Outcome;
 
 // The count is what was taken of the budget. In their order: some visit met a limit, false of the first model, true of both; or accepted.
 fn within(budget: u32, left: u32, limited: bool, first: bool, second: bool) -> Answer
@@ -20,15 +19,15 @@ fn within(budget: u32, left: u32, limited: bool, first: bool, second: bool) -> A
 {
     let count = budget - left;
     if limited {
-        return answer::outcome(11, count);
+        return answer::outcome(Outcome::LimitMet, count);
     }
     if !first {
-        return answer::outcome(12, count);
+        return answer::outcome(Outcome::FalseOfFirst, count);
     }
     if second {
-        return answer::outcome(13, count);
+        return answer::outcome(Outcome::TrueOfBoth, count);
     }
-    answer::outcome(0, count)
+    answer::outcome(Outcome::Accepted, count)
 }
 
 // The formula that stands in the slice f with its index, judged of each model, the second with what the first leaves of the budget.
@@ -38,17 +37,14 @@ fn both(first: &[u8], second: &[u8], f: &[u8], out: &mut [u8], budget: u32) -> A
     ensures judges_both_indexed { JudgesBothIndexed first.now second.now f.now budget result }
 {
     let mut m = [0u8; head::BOUND];
-    match model::judge(first, f, &mut m, out, budget) {
-        Judged::Done(truth, limited, left) => {
-            match model::judge(second, f, &mut m, out, left) {
-                Judged::Done(other, more, rest) => {
-                    within(budget, rest, limited | more, truth, other)
-                }
-                Judged::Spent => answer::outcome(10, budget),
-            }
-        }
-        Judged::Spent => answer::outcome(10, budget),
-    }
+    let Some(one) = model::judge(first, f, &mut m, out, budget) else {
+        return answer::outcome(Outcome::BudgetSpent, budget);
+    };
+    let Some(other) = model::judge(second, f, &mut m, out, one.left) else {
+        return answer::outcome(Outcome::BudgetSpent, budget);
+    };
+    let limited = one.limited | other.limited;
+    within(budget, other.left, limited, one.truth, other.truth)
 }
 
 // The same, where the formula is put into a slice with its index.
@@ -85,6 +81,6 @@ pub fn judge(first: &[u8], second: &[u8], formula: &[u8], work: &mut [u8], budge
         work,
         budget,
     );
-    clear(work);
+    work.fill(0);
     given
 }

@@ -1,6 +1,6 @@
 -- What a table of layouts says of every kind: one computed test over its rows ("Bytes").
 use mathlib.Core.Path.{◌≡◌}
-use mathlib.Core.Bool.{Bool, true, ◌&&◌}
+use mathlib.Core.Bool.{Bool, true, false, ◌&&◌}
 use mathlib.Core.List.{List, [], ◌∷◌}
 use Prim.Native.Nat.{ℕ, zero, suc, ◌≤◌, ◌<◌}
 use native.Mathlib.Omega.{arith}
@@ -32,9 +32,9 @@ module _ (small large : Layout → ℕ) where
   in_order [] = true
   in_order (l ∷ table) = leb (small l) (large l) && in_order table
 
-  at_kind : T (leb (small (layout 0 0 0 0)) (large (layout 0 0 0 0))) → (table : List Layout) → T (in_order table) → (k : ℕ)
+  at_kind : T (leb (small (layout 0 0 false 0)) (large (layout 0 0 false 0))) → (table : List Layout) → T (in_order table) → (k : ℕ)
       → small (layout_of table k) ≤ large (layout_of table k)
-  at_kind z [] t k = leb→le (small (layout 0 0 0 0)) (large (layout 0 0 0 0)) z
+  at_kind z [] t k = leb→le (small (layout 0 0 false 0)) (large (layout 0 0 false 0)) z
   at_kind z (l ∷ table) t zero = leb→le (small l) (large l) (and_yes (leb (small l) (large l)) (in_order table) t).0
   at_kind z (l ∷ table) t (suc k) = at_kind z table (and_yes (leb (small l) (large l)) (in_order table) t).1 k
 

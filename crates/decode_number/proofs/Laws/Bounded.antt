@@ -1,4 +1,5 @@
 -- A number with a limit, by the number that stands there ("Turned back for the input", 2 to 6).
+use Rattle.std.specs.Prelude.{Ok, Err}
 use mathlib.Core.Path.{◌≡◌}
 use mathlib.Core.List.{List}
 use Prim.Native.Nat.{ℕ, ◌+◌, ◌≤◌, ◌<◌}
@@ -6,29 +7,28 @@ use native.Mathlib.Omega.{arith}
 use borrow.Author.Tests.{lt-ltb, le-ltb}
 use lib.ListN.{length, get_or}
 use Rattle.meaning.specs.Bytes.Number.{Read, found, refused, and_then, number}
-use Rattle.decode_number.specs.Answer.{refusal_number, numeral, bounded, extent}
+use Rattle.decode_number.specs.Answer.{refusal_number, Numeral, numeral, Bounded, bounded, extent}
 use Rattle.decode_number.specs.Bounded.{number_below}
 use Rattle.decode_number.proofs.Laws.Number.{nothing_there, one_byte}
 use Rattle.decode_number.specs.declared.answer.Refusal.{Refusal}
-use Rattle.decode_number.specs.declared.number.Numeral.{Numeral}
-use Rattle.decode_number.specs.declared.number.Numeral.TheVariants.{Value, Truncated, Malformed}
-use Rattle.decode_number.specs.declared.number.Bounded.{Bounded}
-use Rattle.decode_number.specs.declared.number.Bounded.TheVariants.{Is, Refused}
+use Rattle.decode_number.specs.declared.answer.Refused.{Refused}
+use Rattle.decode_number.specs.declared.number.Decoding.{Decoding}
+use Rattle.decode_number.specs.declared.number.Fault.TheVariants.{Truncated, Malformed}
 
 module _ (s : List ℕ) (at limit : ℕ) (why : Refusal) {r : Numeral} (e : numeral s at r ≡ number s at) where
-  pub is_below : {n end : ℕ} → r ≡ Value n end → n < limit → found n end ≡ number_below limit why s at
+  pub is_below : {n : Decoding} → r ≡ Ok n → n.value < limit → found n.value n.end ≡ number_below limit why s at
   unfolding number_below and_then
-  is_below {n} f h = rw (← e, f, lt-ltb n limit h)
+  is_below {n} f h = rw (← e, f, lt-ltb n.value limit h)
 
-  pub is_above : {n end : ℕ} → r ≡ Value n end → limit ≤ n → refused (refusal_number why) at ≡ number_below limit why s at
+  pub is_above : {n : Decoding} → r ≡ Ok n → limit ≤ n.value → refused (refusal_number why) at ≡ number_below limit why s at
   unfolding number_below and_then
-  is_above {n} f h = rw (← e, f, le-ltb n limit h)
+  is_above {n} f h = rw (← e, f, le-ltb n.value limit h)
 
-  pub ends_early : r ≡ Truncated → refused 2 (length s) ≡ number_below limit why s at
+  pub ends_early : r ≡ Err Truncated → refused 2 (length s) ≡ number_below limit why s at
   unfolding number_below and_then
   ends_early f = rw (← e, f)
 
-  pub badly_formed : r ≡ Malformed → refused 3 at ≡ number_below limit why s at
+  pub badly_formed : r ≡ Err Malformed → refused 3 at ≡ number_below limit why s at
   unfolding number_below and_then
   badly_formed f = rw (← e, f)
 
@@ -44,11 +44,11 @@ module _ (s : List ℕ) (at limit : ℕ) (why : Refusal) where
 
 -- Where only the end is asked for.
 module _ {x : Read ℕ} {r : Bounded} (e : bounded r ≡ x) where
-  pub end_of : {n end : ℕ} → r ≡ Is n end → found tt end ≡ extent x
+  pub end_of : {n : Decoding} → r ≡ Ok n → found tt n.end ≡ extent x
   unfolding extent
   end_of f = rw (← e, f)
 
-  pub refusal-of : {why : Refusal} {place : ℕ} → r ≡ Refused why place → refused (refusal_number why) place ≡ extent x
+  pub refusal-of : {n : Refused} → r ≡ Err n → refused (refusal_number n.why) n.place ≡ extent x
   unfolding extent
   refusal-of f = rw (← e, f)
 

@@ -16,6 +16,9 @@ use Rattle.meaning.specs.Bytes.Reading.{steps_left, formula_fields, formula}
 use Rattle.decode_number.specs.Answer.{Extent, extent}
 use Rattle.decode_layout.specs.Layout.{parts, layout_of, process_layouts, formula_layouts}
 use Rattle.decode_term.specs.Shape.{times, node, terms_at}
+use Rattle.decode_term.specs.Sort.{Nodes}
+use Rattle.decode_slice.specs.Paths.{process_below, formula_below}
+use Rattle.decode_layout.proofs.Laws.Table.{two_at_most}
 use Rattle.decode_slice.specs.Sorts.{own_terms, process_room, process_head, process_part, formula_room, formula_head, formula_part}
 use Rattle.decode_term.proofs.Laws.Alike.{both_end, same_extent, and_part, and_field}
 use Rattle.decode_term.proofs.Laws.Rows.{◌also◌, complete, Rows, node_alike, too_deep}
@@ -63,6 +66,16 @@ process_layout (suc left) scope s at =
     rw down (same_extent (node_alike (room_for scope) _ process_kinds (suc left) _ _ process_layouts _ s at (omega arith)
     (process_rows left scope s)))
 
+-- So processes are a sort.
+pub processes : Nodes 8 process_layouts (λ p. p.left) (λ p k. process_room p.scope (layout_of process_layouts k))
+    (λ p s k. own_terms p.scope s (layout_of process_layouts k)) process_below (λ p s at. extent (process p.left p.scope s at))
+unfolding process_part
+processes = record {
+  few = λ k. two_at_most process_layouts tt k refl;
+  falls = λ p k. refl;
+  shape = λ p s at. process_layout p.left p.scope s at;
+}
+
 -- Formulas.
 module _ (left steps scope : ℕ) (s : List ℕ) where
   abbrev recipes : ℕ → Read Term
@@ -108,3 +121,13 @@ formula_layout (suc left) steps scope s at =
     let down : suc left - 1 ≡ left = omega arith in
     rw down (same_extent (node_alike (steps_left steps) _ formula_kinds (suc left) _ _ formula_layouts _ s at (omega arith)
     (formula_rows left steps scope s)))
+
+-- So formulas are a sort.
+pub formulas : Nodes 6 formula_layouts (λ p. p.left) (λ p k. formula_room p.steps (layout_of formula_layouts k))
+    (λ p s k. own_terms p.scope s (layout_of formula_layouts k)) formula_below (λ p s at. extent (formula p.left p.steps p.scope s at))
+unfolding formula_part
+formulas = record {
+  few = λ k. two_at_most formula_layouts tt k refl;
+  falls = λ p k. refl;
+  shape = λ p s at. formula_layout p.left p.steps p.scope s at;
+}

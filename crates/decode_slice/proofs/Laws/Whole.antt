@@ -1,4 +1,5 @@
 -- A whole slice ("Turned back for the input", 1 and 8).
+use Rattle.std.specs.Prelude.{Ok, Err}
 use mathlib.Core.Path.{◌≡◌, refl, sym, ◌∙◌}
 use mathlib.Core.Bool.{Bool, true, false}
 use mathlib.Core.List.{List}
@@ -9,25 +10,23 @@ use lib.ListN.{length}
 use Rattle.meaning.specs.Bytes.Number.{Read, found, refused, and_then, provided}
 use Rattle.meaning.specs.Bytes.Reading.{process, formula, whole, read_model, read_formula}
 use Rattle.meaning.proofs.Bytes.Reader.{below, above}
-use Rattle.decode_number.specs.Answer.{Extent, refusal_number, answer, extent}
+use Rattle.decode_number.specs.Answer.{Extent, Answer, refusal_number, answer, extent}
 use Rattle.decode_slice.specs.Sorts.{to_the_end}
-use Rattle.decode_number.specs.declared.answer.Refusal.{Refusal}
-use Rattle.decode_number.specs.declared.answer.Answer.{Answer}
-use Rattle.decode_number.specs.declared.answer.Answer.TheVariants.{Ends, Refused}
+use Rattle.decode_number.specs.declared.answer.Refused.{Refused}
 
-module _ (s : List ℕ) {a : Answer} where
-  pub reaches : {end : ℕ} → a ≡ Ends end → length s ≤ end → found tt end ≡ to_the_end s (answer a)
+module _ (s : List ℕ) {end : ℕ} where
+  pub reaches : length s ≤ end → found tt end ≡ to_the_end s (found tt end)
   unfolding to_the_end and_then
-  reaches {end} f h = rw (f, le-leb (length s) end h)
+  reaches h = rw (le-leb (length s) end h)
 
-  pub falls_short : {end : ℕ} → a ≡ Ends end → end < length s → refused 8 end ≡ to_the_end s (answer a)
+  pub falls_short : end < length s → refused 8 end ≡ to_the_end s (found tt end)
   unfolding to_the_end and_then
-  falls_short {end} f h = rw (f, lt-leb (length s) end h)
+  falls_short h = rw (lt-leb (length s) end h)
 
-  pub refused_before : {why : Refusal} {place : ℕ} → a ≡ Refused why place
-      → refused (refusal_number why) place ≡ to_the_end s (answer a)
-  unfolding to_the_end and_then
-  refused_before f = rw f
+-- What is refused before its end is so whatever the slice.
+refused_before : (s : List ℕ) (number place : ℕ) → refused number place ≡ to_the_end s (refused number place)
+unfolding to_the_end and_then
+refused_before s number place = refl
 
 -- The end of the tree is the end of the slice, whatever the tree.
 tested : {A : Type 0} (test : Bool) (end : ℕ) (a : A) → extent (provided test 8 end a end) ≡ provided test 8 end tt end
@@ -59,13 +58,36 @@ module _ (s : List ℕ) where
   unfolding read_formula
   formula_long h = too_long (formula 48 16 0 s) s h
 
-  module _ (h : length s ≤ 4096) (a : Answer) {x : Extent} (f : x ≡ to_the_end s (answer a)) where
-    pub model_whole : answer a ≡ extent (process 64 0 s 0) → x ≡ extent (read_model s)
-    unfolding read_model
-    model_whole e = rw e at f ∙ not_too_long (process 64 0 s) s h
+  module _ (h : length s ≤ 4096) (a : Answer) where
+    module _ (e : answer a ≡ extent (process 64 0 s 0)) where
+      model_whole : to_the_end s (answer a) ≡ extent (read_model s)
+      unfolding read_model
+      model_whole = rw e (not_too_long (process 64 0 s) s h)
 
-    pub formula_whole : answer a ≡ extent (formula 48 16 0 s 0) → x ≡ extent (read_formula s)
-    unfolding read_formula
-    formula_whole e = rw e at f ∙ not_too_long (formula 48 16 0 s) s h
+      pub model_ends : {end : ℕ} {x : Extent} → a ≡ Ok end → x ≡ to_the_end s (found tt end) → x ≡ extent (read_model s)
+      model_ends f g = g ∙ rw f at model_whole
 
-pub ruleset slices = (reaches, falls_short, refused_before, model_long, formula_long, model_whole, formula_whole)
+      pub model_refused : {f : Refused} → a ≡ Err f → refused (refusal_number f.why) f.place ≡ extent (read_model s)
+      model_refused f = refused_before s _ _ ∙ rw f at model_whole
+
+    module _ (e : answer a ≡ extent (formula 48 16 0 s 0)) where
+      formula_whole : to_the_end s (answer a) ≡ extent (read_formula s)
+      unfolding read_formula
+      formula_whole = rw e (not_too_long (formula 48 16 0 s) s h)
+
+      pub formula_ends : {end : ℕ} {x : Extent} → a ≡ Ok end → x ≡ to_the_end s (found tt end) → x ≡ extent (read_formula s)
+      formula_ends f g = g ∙ rw f at formula_whole
+
+      pub formula_refused : {f : Refused} → a ≡ Err f → refused (refusal_number f.why) f.place ≡ extent (read_formula s)
+      formula_refused f = refused_before s _ _ ∙ rw f at formula_whole
+
+pub ruleset slices = (
+  reaches,
+  falls_short,
+  model_long,
+  formula_long,
+  model_ends,
+  model_refused,
+  formula_ends,
+  formula_refused,
+)

@@ -1,6 +1,8 @@
 -- `decode_slice::read_model` meets its contract: a slice that is too long, or the answer of `process::read` up to the slice's end.
 use Rattle.std.proofs.Common.{rules}
+use Rattle.std.proofs.lemmas.Result.{err_from_is_err_and}
 use Rattle.decode_slice.proofs.Laws.Whole.{slices}
+use Rattle.decode_slice.proofs.Laws.Sorts.{processes}
 use Rattle.decode_slice.proofs.Theorems.{model_exact}
 use Rattle.decode_slice.proofs.read_model.Goals as goal
 
@@ -10,8 +12,21 @@ returns-then-s-gt-BYTES-clause-result_value c = search (rules, slices)
 pub returns-then-s-gt-BYTES-clause-model_answer : goal.returns-then-s-gt-BYTES-clause-model_answer
 returns-then-s-gt-BYTES-clause-model_answer c = model_exact _ c.type_inv.s _ (search (rules, slices))
 
+pub read-requires : goal.read-requires
+read-requires c = (tt, processes)
+
+pub returns-in_err-end-clause-result_value : goal.returns-in_err-end-clause-result_value
+returns-in_err-end-clause-result_value c =
+    let p = err_from_is_err_and c.from_residual.result c.from_residual.ensures.1 in
+    rw (p.1, p.2) (search (rules, slices, c.in_err-end.was))
+
+pub returns-in_err-end-clause-model_answer : goal.returns-in_err-end-clause-model_answer
+returns-in_err-end-clause-model_answer c =
+    let p = err_from_is_err_and c.from_residual.result c.from_residual.ensures.1 in
+    model_exact _ c.type_inv.s _ (rw (p.1, p.2) (search (rules, slices, c.in_err-end.was)))
+
 pub returns-clause-result_value : goal.returns-clause-result_value
-returns-clause-result_value c = search (rules, slices)
+returns-clause-result_value c = search (rules, slices, c.in_ok-end.was)
 
 pub returns-clause-model_answer : goal.returns-clause-model_answer
-returns-clause-model_answer c = model_exact _ c.type_inv.s _ (search (rules, slices))
+returns-clause-model_answer c = model_exact _ c.type_inv.s _ (search (rules, slices, c.in_ok-end.was))

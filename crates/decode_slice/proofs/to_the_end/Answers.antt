@@ -6,8 +6,5 @@ use Rattle.decode_slice.proofs.to_the_end.Goals as goal
 pub returns-then-end-s : goal.returns-then-end-s
 returns-then-end-s c = search (rules, slices)
 
-pub returns-else-end-s : goal.returns-else-end-s
-returns-else-end-s c = search (rules, slices)
-
-pub returns-in-Refused : goal.returns-in-Refused
-returns-in-Refused c = search (rules, slices)
+pub returns : goal.returns
+returns c = search (rules, slices)

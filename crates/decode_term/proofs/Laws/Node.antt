@@ -1,20 +1,17 @@
 -- A node by its head and the parts that follow ("Bytes").
+use Rattle.std.specs.Prelude.{Ok, Err}
 use mathlib.Core.Path.{◌≡◌, refl, ap, ◌∙◌}
 use mathlib.Core.List.{List}
-use Prim.Native.Nat.{ℕ, suc, ◌-◌}
+use Prim.Native.Nat.{ℕ, suc, ◌-◌, ◌≤◌}
 use native.Mathlib.Omega.{arith}
 use Rattle.meaning.specs.Bytes.Number.{Read, found, refused, and_then}
 use Rattle.meaning.specs.Bytes.Reading.{term}
-use Rattle.decode_number.specs.Answer.{Extent, refusal_number, answer, bounded, extent}
+use Rattle.decode_number.specs.Answer.{Extent, Answer, Bounded, refusal_number, answer, bounded, extent}
 use Rattle.decode_term.specs.Shape.{times, node, terms_at}
 use Rattle.decode_layout.specs.declared.layout.Layout.{Layout}
 use Rattle.decode_layout.specs.Layout.{parts, layout_of}
-use Rattle.decode_number.specs.declared.answer.Refusal.{Refusal}
-use Rattle.decode_number.specs.declared.answer.Answer as answers
-use Rattle.decode_number.specs.declared.answer.Answer.{Answer}
-use Rattle.decode_number.specs.declared.number.Bounded as bounds
-use Rattle.decode_number.specs.declared.number.Bounded.{Bounded}
-use Rattle.decode_layout.proofs.Laws.Table.{FewParts, two_at_most}
+use Rattle.decode_number.specs.declared.answer.Refused.{Refused}
+use Rattle.decode_number.specs.declared.number.Decoding.{Decoding}
 
 -- Nothing is done after the last.
 then_done : (x : Extent) → and_then x (λ _ end. found tt end) ≡ x
@@ -24,41 +21,37 @@ then_done (refused number place) = refl
 
 module _ (h : Read ℕ) (table : List Layout) (part : ℕ → ℕ → Extent) {x : Extent} (d : x ≡ node h table part) {r : Bounded}
     (e : bounded r ≡ h) where
-  pub no_head : {why : Refusal} {place : ℕ} → r ≡ bounds.TheVariants.Refused why place → refused (refusal_number why) place ≡ x
+  pub no_head : {f : Refused} → r ≡ Err f → refused (refusal_number f.why) f.place ≡ x
   unfolding node and_then
   no_head f = rw (d, ← e, f)
 
-  module _ {k end : ℕ} (f : r ≡ bounds.TheVariants.Is k end) {l : Layout} (g : l ≡ layout_of table k) where
+  module _ {n : Decoding} (f : r ≡ Ok n) {m : ℕ} (g : m ≡ parts (layout_of table n.value)) where
     -- The parts that are left to be read.
-    rest : x ≡ times (parts l) (part k) end
+    rest : x ≡ times m (part n.value) n.end
     unfolding node and_then
-    rest = rw (d, ← e, f, g)
+    rest = rw (d, ← e, f, ← g)
 
-    pub no_parts : parts l ≡ 0 → found tt end ≡ x
+    pub no_parts : m ≡ 0 → found tt n.end ≡ x
     unfolding times
     no_parts z = rw (rest, z)
 
     -- Of a node of one part, that part is left.
-    pub one_part : parts l ≡ 1 → {y : Extent} → y ≡ part k end → x ≡ y
+    pub one_part : m ≤ 2 → (m ≡ 0 → ⊥) → (m ≡ 2 → ⊥) → {y : Extent} → y ≡ part n.value n.end → x ≡ y
     unfolding times
-    one_part z i = rw (rest, z, i, then_done)
+    one_part few z t i =
+        let one : m ≡ 1 = omega arith in
+        rw (rest, one, i, then_done)
 
-    pub first_refused : (parts l ≡ 0 → ⊥) → {a : Answer} → answer a ≡ part k end → {why : Refusal} {place : ℕ}
-        → a ≡ answers.TheVariants.Refused why place → refused (refusal_number why) place ≡ x
+    pub first_refused : m ≡ 2 → {a : Answer} → answer a ≡ part n.value n.end → {h : Refused} → a ≡ Err h
+        → refused (refusal_number h.why) h.place ≡ x
     unfolding times and_then
-    first_refused z i j =
-        let one : parts l ≡ suc (parts l - 1) = omega arith in
-        rw (rest, one, ← i, j)
+    first_refused two i j = rw (rest, two, ← i, j)
 
     -- Of a node of two parts, the second is left after the first.
-    pub two_parts : FewParts table → (parts l ≡ 0 → ⊥) → (parts l ≡ 1 → ⊥) → {a : Answer} → answer a ≡ part k end → {mid : ℕ}
-        → a ≡ answers.TheVariants.Ends mid → {y : Extent} → y ≡ part k mid → x ≡ y
+    pub two_parts : m ≡ 2 → {a : Answer} → answer a ≡ part n.value n.end → {mid : ℕ} → a ≡ Ok mid
+        → {y : Extent} → y ≡ part n.value mid → x ≡ y
     unfolding times and_then
-    two_parts few z o i {mid} j m =
-        let two : parts l ≡ 2 = omega (arith, two_at_most table few k g) in
-        rw (rest, two, ← i, j, m, then_done (part k mid))
-
-pub ruleset nodes = (no_head, no_parts, one_part, first_refused, two_parts)
+    two_parts two i {mid} j m = rw (rest, two, ← i, j, m, then_done (part n.value mid))
 
 -- Terms in a row.
 module _ (count scope : ℕ) (s : List ℕ) (at : ℕ) where
@@ -73,12 +66,11 @@ module _ (count scope : ℕ) (s : List ℕ) (at : ℕ) where
         let one : count ≡ suc (count - 1) = omega arith in
         ap (λ n. terms_at n scope s at) one ∙ rw e
 
-    pub field_refused : {why : Refusal} {place : ℕ} → a ≡ answers.TheVariants.Refused why place
-        → refused (refusal_number why) place ≡ terms_at count scope s at
+    pub field_refused : {f : Refused} → a ≡ Err f → refused (refusal_number f.why) f.place ≡ terms_at count scope s at
     unfolding and_then
     field_refused f = rw (after_one, f)
 
-    pub field_read : {end : ℕ} → a ≡ answers.TheVariants.Ends end → {x : Extent} → x ≡ terms_at (count - 1) scope s end
+    pub field_read : {end : ℕ} → a ≡ Ok end → {x : Extent} → x ≡ terms_at (count - 1) scope s end
         → x ≡ terms_at count scope s at
     unfolding and_then
     field_read f g = rw (after_one, f) g

@@ -15,6 +15,9 @@ use Rattle.decode_number.specs.Answer.{Extent, extent}
 use Rattle.decode_layout.specs.Layout.{parts, layout_of, term_layouts}
 use Rattle.decode_number.specs.Bounded.{number_below}
 use Rattle.decode_term.specs.Shape.{times, node, leaf, term_head}
+use Rattle.decode_term.specs.Sort.{Nodes}
+use Rattle.decode_term.specs.Path.{term_below}
+use Rattle.decode_layout.proofs.Laws.Table.{two_at_most}
 use Rattle.decode_term.proofs.Laws.Alike.{Alike, both_end, both_refused, same_extent, and_part}
 use Rattle.decode_term.proofs.Laws.Rows.{◌also◌, complete, Rows, node_alike, too_deep}
 
@@ -76,3 +79,12 @@ term_layout zero scope s at = same_extent (too_deep _ term_kinds _ _ term_layout
 term_layout (suc left) scope s at =
     let down : suc left - 1 ≡ left = omega arith in
     rw down (same_extent (node_alike always _ term_kinds (suc left) _ _ term_layouts _ s at (omega arith) (term_rows left scope s)))
+
+-- So terms are a sort.
+pub terms : Nodes 8 term_layouts (λ p. p.left) (λ p k. true) (λ p. leaf p.scope) (λ p k. term_below p)
+    (λ p s at. extent (term p.left p.scope s at))
+terms = record {
+  few = λ k. two_at_most term_layouts tt k refl;
+  falls = λ p k. refl;
+  shape = λ p s at. term_layout p.left p.scope s at;
+}

@@ -1,5 +1,6 @@
 -- A call keeps its promise: where the input is turned back, and where it is judged ("Turned back for the input"; "Turned back for the
 -- state").
+use Rattle.std.specs.Prelude.{Ok, Err}
 use mathlib.Core.Path.{◌≡◌, refl, sym, ap, ◌∙◌}
 use mathlib.Core.Option.{none, some}
 use mathlib.Core.List.{List, ◌++◌}
@@ -22,10 +23,8 @@ use Rattle.meaning.proofs.Verdict.Sorting.{sorted, sorted_once}
 use Rattle.decode_number.proofs.Theorems.{never}
 use Rattle.decode_slice.proofs.Theorems.{bytes_of}
 use Rattle.verdict_input.specs.declared.answer.Answer.{Answer}
-use Rattle.verdict_input.specs.declared.input.Input.{Input}
-use Rattle.verdict_input.specs.declared.input.Input.TheVariants.{Good, Bad}
 use Rattle.verdict_input.specs.Answer.{numbers}
-use Rattle.verdict_input.specs.Input.{refusal, refusal_of}
+use Rattle.verdict_input.specs.Input.{Input, refusal, refusal_of}
 use Rattle.verdict_state.specs.Models.{JudgesBoth}
 use Rattle.gubzsenil.specs.Verdict.{Promise}
 use Rattle.gubzsenil.proofs.Theorems.{accepted_by_numbers, acceptable_excludes}
@@ -61,7 +60,7 @@ is_well {i = bad result slice place} i f = never (cc)
 is_well {i = good P Q F} (formed f) g = record { P = P; Q = Q; F = F; formed = f }
 
 module _ (s₁ s₂ s₃ : List ℕ) (work : ℕ) (slices : Slices s₁ s₂ s₃) (read : Input)
-    (e : refusal read ≡ refusal_of (input s₁ s₂ s₃ work)) (f : read ≡ Good) where
+    (e : refusal read ≡ refusal_of (input s₁ s₂ s₃ work)) {u : Unit {0}} (f : read ≡ Ok u) where
   well : Well s₁ s₂ s₃ work
   well = is_well (sorted s₁ s₂ s₃ work slices.first slices.second slices.third) (sym e ∙ ap refusal f)
 
@@ -100,11 +99,11 @@ module _ (s₁ s₂ s₃ work : List ℕ) (budget : ℕ) (slices : Slices s₁ s
   refused_so (bad result slice place) f g = promised (bad result slice place) f (cc) refl
 
   module _ (read : Input) (e : refusal read ≡ refusal_of (input s₁ s₂ s₃ (length work))) where
-    pub turned-back : {r : Answer} → read ≡ Bad r → Promise s₁ s₂ s₃ work budget r work
+    pub turned-back : {r : Answer} → read ≡ Err r → Promise s₁ s₂ s₃ work budget r work
     turned-back f = refused_so (input s₁ s₂ s₃ (length work)) refl (sym e ∙ ap refusal f)
 
     -- The part that was lent comes back cleared.
-    pub judged_so : {r : Answer} {part : List ℕ} → read ≡ Good → JudgesBoth s₁ s₂ s₃ budget r
+    pub judged_so : {r : Answer} {part : List ℕ} {u : Unit {0}} → read ≡ Ok u → JudgesBoth s₁ s₂ s₃ budget r
         → part ≡ replicate (length (take 65536 work)) 0 → Promise s₁ s₂ s₃ work budget r (part ++ drop 65536 work)
     unfolding verdict_on work_on
     judged_so f h g =

@@ -19,6 +19,7 @@ use Rattle.decode_layout.proofs.Laws.Standing.{first_byte}
 use Rattle.index_entry.specs.declared.entry.Entry.{Entry}
 use Rattle.index_entry.specs.Entry.{short, entry_of, IsLarge}
 use Rattle.index_process.specs.Index.{
+  one_less,
   entry_at,
   numbers_of,
   bytes_of,
@@ -132,8 +133,8 @@ module _ {s : List ℕ} {at v : ℕ} where
   pub last_input : {out : Bool} → out ≡ false → Says s at 2 v → Lasts s at out v
   last_input e n = record { same = λ P p. rw e (n.same P p) }
 
-  pub fixed : SaysByte s at 0 v → Fixes s at v
-  fixed n = record { same = λ P p. n.same P p }
+  pub fixed : SaysByte s at 0 v → Fixes s at (one_less v)
+  fixed n = record { same = λ P p. ap one_less (n.same P p) }
 
   pub spreads : SaysByte s at 1 v → GrowsBy s at v
   spreads n = record { same = λ P p. n.same P p }

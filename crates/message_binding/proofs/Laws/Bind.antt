@@ -1,4 +1,5 @@
 -- A message bound after others: the number of its nodes, and its run ("Steps").
+use Rattle.std.specs.Prelude.{Option, Some, None}
 use mathlib.Core.Path.{◌≡◌, sym, ap, ◌∙◌}
 use mathlib.Core.Bool.{true≢false}
 use mathlib.Core.List.{List, [], ◌∷◌, append-nil}
@@ -17,7 +18,6 @@ use Rattle.buffer.specs.Buffer.{Within}
 use Rattle.message_term.specs.Bound.{encode_bound, encode_entry, BoundAt, Binds, BindsRun}
 use Rattle.message_term.specs.Work.{TermAt, answer_of, end_of, Works, BindWorked, Reaches}
 use Rattle.message_term.specs.declared.work.Worked.{Worked}
-use Rattle.message_term.specs.declared.work.Worked.TheVariants.{Done, TooLarge}
 use Rattle.message_bytes.proofs.Laws.Encoding.{length_encode}
 use Rattle.buffer.proofs.Laws.Buffer.{kept, kept_above, unchanged, wider, one_after, node_within, node_stands, put_within, put_stands}
 use Rattle.message_term.proofs.Laws.Bound.{bound_append}
@@ -92,7 +92,7 @@ pub term_within : {m m₁ m₂ : List ℕ} (end v : ℕ) → m₂ ≡ set (set m
 term_within {m₁} end v e w h =
     one_after w (node_within m₁ end v e (omega (arith, w.long))) (omega arith) (omega arith) (omega arith) (omega arith)
 
-module _ {s m m₁ : List ℕ} {at base end : ℕ} {r : Worked} (f : Works s at 8 m base (end + 2) r m₁) where
+module _ {s m m₁ : List ℕ} {at base end : ℕ} {r : Option Worked} (f : Works s at 8 m base (end + 2) r m₁) where
   -- They are bound below end + 2 too, where the message will start.
   further : {ρ : Bound} → BoundAt m base ρ end → BoundAt m base ρ (end + 2)
   further b = still_bound b (unchanged {low = end} {high = end}) (omega arith) (omega arith)
@@ -101,46 +101,46 @@ module _ {s m m₁ : List ℕ} {at base end : ℕ} {r : Worked} (f : Works s at 
       → r ≡ answer_of (over ρ t) next (end_of ρ t (end + 2))
   answered t ρ p b = (f.exact t ρ p (further b)).answer
 
-  pub term_large : r ≡ TooLarge → BindWorked s at m base end TooLarge m₁
+  pub term_large : r ≡ None → BindWorked s at m base end None m₁
   term_large e = record {
     answer = λ t ρ p b. sym e ∙ answered t ρ p b;
     run = λ t ρ p b o. absurd (true≢false (sym (said_over _ _ _ (answered t ρ p b) e) ∙ o));
   }
 
-  pub term_bound : {m₂ : List ℕ} {i last : ℕ} → r ≡ Done i last → Within (end + 2) (end + 2 + 4096) m m₁
-      → m₂ ≡ set (set m₁ end ((last - end - 2) / 2 % 256)) (end + 1) ((last - end - 2) / 2 / 256)
-      → end + 4098 ≤ length m → BindWorked s at m base end (Done i last) m₂
-  term_bound {m₂} {last} e w v h = record {
+  pub term_bound : {m₂ : List ℕ} {x : Worked} → r ≡ Some x → Within (end + 2) (end + 2 + 4096) m m₁
+      → m₂ ≡ set (set m₁ end ((x.end - end - 2) / 2 % 256)) (end + 1) ((x.end - end - 2) / 2 / 256)
+      → end + 4098 ≤ length m → BindWorked s at m base end (Some x) m₂
+  term_bound {m₂} {x} e w v h = record {
     answer = λ t ρ p b. sym e ∙ answered t ρ p b;
     run = λ t ρ p b o.
         let g = f.exact t ρ p (further b) in
         let (same, next, ends) = said_small _ _ _ g.answer e in
         let fits : end + 2 ≤ length m₁ = omega (arith, w.long) in
-        let size : (last - end - 2) / 2 ≡ nodes (worked ρ t) = omega arith in
-        let number = node_stands m₁ end ((last - end - 2) / 2) v fits in
-        let above = (node_within m₁ end ((last - end - 2) / 2) v fits).above in
-        entry_bound (worked ρ t) (term_within end ((last - end - 2) / 2) v w h).below (rw size at number)
+        let size : (x.end - end - 2) / 2 ≡ nodes (worked ρ t) = omega arith in
+        let number = node_stands m₁ end ((x.end - end - 2) / 2) v fits in
+        let above = (node_within m₁ end ((x.end - end - 2) / 2) v fits).above in
+        entry_bound (worked ρ t) (term_within end ((x.end - end - 2) / 2) v w h).below (rw size at number)
         (kept_above {high = end + 2} (g.run o) (omega arith) above);
   }
 
 pub term_large_within : {m m₁ : List ℕ} (end : ℕ) → Within (end + 2) (end + 2 + 4096) m m₁ → Within end (end + 4098) m m₁
 term_large_within end w = wider w (omega arith) (omega arith)
 
-pub done_reaches : {start left i last : ℕ} {r : Worked} → r ≡ Done i last → Reaches start left r → Reaches start left (Done i last)
+pub done_reaches : {start left : ℕ} {x : Worked} {r : Option Worked} → r ≡ Some x → Reaches start left r → Reaches start left (Some x)
 done_reaches e h = rw e at h
 
 -- The number of nodes is worked out from where the message ends.
-module _ {r : Worked} {i last : ℕ} (end : ℕ) (e : r ≡ Done i last) (h : Reaches (end + 2) 8 r) where
-  reached : (end + 2 ≤ last) × (last ≤ end + 2 + 510) × (1 ≤ 8)
-  reached = h.there i last e
+module _ {r : Option Worked} {x : Worked} (end : ℕ) (e : r ≡ Some x) (h : Reaches (end + 2) 8 r) where
+  reached : (end + 2 ≤ x.end) × (x.end ≤ end + 2 + 510) × (1 ≤ 8)
+  reached = h.there x e
 
-  pub end_before : end ≤ last
+  pub end_before : end ≤ x.end
   end_before = let g = reached in omega arith
 
-  pub room_between : 2 ≤ last - end
+  pub room_between : 2 ≤ x.end - end
   room_between = let g = reached in omega arith
 
-  pub few_nodes : (last - end - 2) / 2 < 65536
+  pub few_nodes : (x.end - end - 2) / 2 < 65536
   few_nodes = let g = reached in omega arith
 
 pub ruleset counts = (end_before, room_between, few_nodes)

@@ -2,7 +2,7 @@
 -- message's.
 use mathlib.Core.Path.{◌≡◌, refl, sym, ap, ◌∙◌}
 use mathlib.Core.List.{List, [], ◌∷◌, ◌++◌, append_assoc}
-use Prim.Native.Nat.{ℕ, ◌*◌, ◌≤◌, ◌<◌}
+use Prim.Native.Nat.{ℕ, zero, suc, ◌+◌, ◌-◌, ◌*◌, ◌≤◌, ◌<◌}
 use native.Mathlib.Nat.{lt_of_not-le}
 use native.Mathlib.Omega.{arith}
 use lib.ListN.{length, length-append, get_or-eq_default}
@@ -53,6 +53,32 @@ binary_parts mac = refl
 pub no_parts : (v : ℕ) → 8 ≤ v → 0 ≡ parts_of v
 unfolding parts_of
 no_parts v h = rw get_or-eq_default
+
+-- The kinds from 5 on have two parts, those before them one, and the first two none.
+from_5 : (k : ℕ) → k < 3 → 2 ≡ parts_of (5 + k)
+unfolding parts_of
+from_5 zero h = refl
+from_5 (suc zero) h = refl
+from_5 (suc (suc zero)) h = refl
+from_5 (suc (suc (suc k))) h = absurd (omega arith)
+
+from_3 : (k : ℕ) → k < 2 → 1 ≡ parts_of (3 + k)
+unfolding parts_of
+from_3 zero h = refl
+from_3 (suc zero) h = refl
+from_3 (suc (suc k)) h = absurd (omega arith)
+
+pub two_parts : (v : ℕ) → 5 ≤ v → v < 8 → 2 ≡ parts_of v
+two_parts v l h = let e : v ≡ 5 + (v - 5) = omega arith in rw e (from_5 (v - 5) (omega arith))
+
+pub one_part : (v : ℕ) → 3 ≤ v → v < 5 → 1 ≡ parts_of v
+one_part v l h = let e : v ≡ 3 + (v - 3) = omega arith in rw e (from_3 (v - 3) (omega arith))
+
+pub no_parts_below : (v : ℕ) → v < 2 → 0 ≡ parts_of v
+unfolding parts_of
+no_parts_below zero h = refl
+no_parts_below (suc zero) h = refl
+no_parts_below (suc (suc v)) h = absurd (omega arith)
 
 pub head_parts : (m : Message) → parts_of (head_number m) ≡ length (inner m)
 head_parts (leaf a) = sym (no_parts (name_number a) (omega (arith, name_from_16 a)))

@@ -1,4 +1,5 @@
 -- A term with parts, worked after its parts ("Messages"; "Judging and its count": each part is held to the limit).
+use Rattle.std.specs.Prelude.{Option, Some, None}
 use mathlib.Core.Path.{◌≡◌, ap, ◌∙◌}
 use mathlib.Core.List.{List}
 use Prim.Native.Nat.{ℕ, ◌+◌, ◌*◌, ◌/◌, ◌%◌, ◌≤◌}
@@ -18,7 +19,6 @@ use Rattle.message_term.specs.Bound.{BoundAt}
 use Rattle.message_term.specs.Work.{Works}
 use Rattle.message_term.specs.Inner.{Reduced, NodeWorked, FirstWorked, SecondWorked}
 use Rattle.message_term.specs.declared.work.Worked.{Worked}
-use Rattle.message_term.specs.declared.work.Worked.TheVariants.{Done, TooLarge}
 use Rattle.message_bytes.proofs.Laws.Encoding.{length_encode, side_parts, binary_parts}
 use Rattle.buffer.proofs.Laws.Buffer.{kept, node_within, node_stands}
 use Rattle.message_term.proofs.Laws.Leaf.{over_large}
@@ -37,7 +37,7 @@ worked_binary ρ b u v =
 -- The first part stands behind the kind.
 module _ {s m : List ℕ} {at left base start mid kind c : ℕ} (g : c ≡ parts_of kind) where
   -- The kind has no other part.
-  pub projected : {m₁ m₂ : List ℕ} {i end : ℕ} {r : Worked} → Reduced m₁ start mid end i r m₂ → m₁ ≡ m → i ≡ at → end ≡ mid → c ≡ 1
+  pub projected : {m₁ m₂ : List ℕ} {i end : ℕ} {r : Option Worked} → Reduced m₁ start mid end i r m₂ → m₁ ≡ m → i ≡ at → end ≡ mid → c ≡ 1
       → SecondWorked s at left m base start mid kind r m₂
   unfolding over encode_message encode_word
   projected d e f l one = record {
@@ -48,24 +48,24 @@ module _ {s m : List ℕ} {at left base start mid kind c : ℕ} (g : c ≡ parts
   }
 
   -- The second part is worked behind the first.
-  module _ {m₁ : List ℕ} {r₁ : Worked} (two : c ≡ 1 → ⊥) (w : Within mid (mid + 512 * left) m m₁)
+  module _ {m₁ : List ℕ} {r₁ : Option Worked} (two : c ≡ 1 → ⊥) (w : Within mid (mid + 512 * left) m m₁)
       (f : Works s at left m base mid r₁ m₁) where
-    pub second_large : r₁ ≡ TooLarge → SecondWorked s at left m base start mid kind TooLarge m₁
+    pub second_large : r₁ ≡ None → SecondWorked s at left m base start mid kind None m₁
     unfolding over
     second_large e = record {
       one = λ t u ρ k o q. absurd (two (g ∙ ap parts_of k ∙ side_parts t));
       two = λ b u v ρ k o q p h. over_large (rw (o, said_over _ _ _ (f.exact v ρ p h).answer e));
     }
 
-    pub joined : {n m₂ : List ℕ} {i j end high : ℕ} {r : Worked} → Reduced n start mid end i r m₂ → n ≡ m₁ → i ≡ j → end ≡ high
-        → r₁ ≡ Done j high → SecondWorked s at left m base start mid kind r m₂
+    pub joined : {n m₂ : List ℕ} {i end : ℕ} {x : Worked} {r : Option Worked} → Reduced n start mid end i r m₂ → n ≡ m₁ → i ≡ x.next
+        → end ≡ x.end → r₁ ≡ Some x → SecondWorked s at left m base start mid kind r m₂
     unfolding over encode_message encode_word
-    joined d l x y e = record {
+    joined d l i y e = record {
       one = λ t u ρ k o q. absurd (two (g ∙ ap parts_of k ∙ side_parts t));
       two = λ b u v ρ k o q p h.
           let second = f.exact v ρ p h in
           let (o₂, next, end) = said_small _ _ _ second.answer e in
-          rw (← next) (by_reduction (binary b (worked ρ u) (worked ρ v)) (rw (l, x, y) at d) (worked_binary ρ b u v) (rw (o, o₂))
+          rw (← next) (by_reduction (binary b (worked ρ u) (worked ρ v)) (rw (l, i, y) at d) (worked_binary ρ b u v) (rw (o, o₂))
           ((normal_forms (written ρ u)).0, (normal_forms (written ρ v)).0)
           (kept {low = mid} q (omega arith) w.below ⨾ rw end (second.run o₂))
           (omega (arith, q.size, length_encode (worked ρ u))));
@@ -74,7 +74,7 @@ module _ {s m : List ℕ} {at left base start mid kind c : ℕ} (g : c ≡ parts
 pub ruleset joins = (projected, second_large, joined)
 
 -- The kind is written, and then the first part is worked behind it.
-pub behind_kind : {s m m₁ m₂ : List ℕ} {at left base start kind : ℕ} {r : Worked} → Works s at left m₁ base (start + 2) r m₂
+pub behind_kind : {s m m₁ m₂ : List ℕ} {at left base start kind : ℕ} {r : Option Worked} → Works s at left m₁ base (start + 2) r m₂
     → Within (start + 2) (start + 2 + 512 * left) m₁ m₂ → m₁ ≡ set (set m start (kind % 256)) (start + 1) (kind / 256)
     → start + 512 * (left + 1) ≤ length m → FirstWorked s at left m base start kind r m₂
 behind_kind {m} {m₁} {m₂} {base} {start} {kind} f w e room = record {
@@ -89,23 +89,23 @@ behind_kind {m} {m₁} {m₂} {base} {start} {kind} f w e room = record {
     kind₂ = kept {low = start + 2} (node_stands m start kind e (omega arith)) (omega arith) w.below
 
 -- Then the rest.
-module _ {s m m₁ : List ℕ} {at left base start kind : ℕ} {r₁ : Worked} (f : FirstWorked s at left m base start kind r₁ m₁) where
-  pub first_large : r₁ ≡ TooLarge → NodeWorked s at left m base start kind TooLarge m₁
+module _ {s m m₁ : List ℕ} {at left base start kind : ℕ} {r₁ : Option Worked} (f : FirstWorked s at left m base start kind r₁ m₁) where
+  pub first_large : r₁ ≡ None → NodeWorked s at left m base start kind None m₁
   unfolding over
   first_large e = record {
     one = λ t u ρ k p b. over_large (rw (said_over _ _ _ (f.answer u ρ p b) e));
     two = λ c u v ρ k p q b. over_large (rw (said_over _ _ _ (f.answer u ρ p b) e));
   }
 
-  pub first_done : {m₂ : List ℕ} {i mid : ℕ} {r : Worked} → r₁ ≡ Done i mid → SecondWorked s i left m₁ base start mid kind r m₂
+  pub first_done : {m₂ : List ℕ} {x : Worked} {r : Option Worked} → r₁ ≡ Some x → SecondWorked s x.next left m₁ base start x.end kind r m₂
       → Within start (start + 512 * (left + 1)) m m₁ → NodeWorked s at left m base start kind r m₂
-  first_done {mid} e j w = record {
+  first_done {x} e j w = record {
     one = λ t u ρ k p b.
         let (o, next, end) = said_small _ _ _ (f.answer u ρ p b) e in
         rw (← next) (j.one t u ρ k o (rw (← k, end) (f.run u ρ p b o)));
     two = λ c u v ρ k p q b.
         let (o, next, end) = said_small _ _ _ (f.answer u ρ p b) e in
-        let bound : BoundAt m₁ base ρ mid = still_bound b w (omega arith) (omega arith) in
+        let bound : BoundAt m₁ base ρ x.end = still_bound b w (omega arith) (omega arith) in
         j.two c u v ρ k o (rw (← k, end) (f.run u ρ p b o)) (rw (← next) at q) bound;
   }
 

@@ -1,4 +1,5 @@
 -- The normal form of a message in a lent buffer, and the limit of 255 nodes ("Messages"; "Judging and its count").
+use Rattle.std.specs.Prelude.{None}
 use mathlib.Core.Path.{◌≡◌, sym, ◌∙◌}
 use mathlib.Core.Bool.{true≢false}
 use mathlib.Core.List.{List, ◌++◌}
@@ -13,9 +14,8 @@ use Rattle.meaning.specs.Bytes.Standing.{Stands}
 use Rattle.message_bytes.specs.Encoding.{encode_message}
 use Rattle.message_normal.specs.Normal.{PartsNormal, first_end, Normalised}
 use Rattle.buffer.specs.Buffer.{Within}
-use Rattle.message_term.specs.Work.{answer_of}
+use Rattle.message_term.specs.Work.{answer_of, done}
 use Rattle.message_term.specs.Inner.{Reduced}
-use Rattle.message_term.specs.declared.work.Worked.TheVariants.{Done, TooLarge}
 use Rattle.message_bytes.proofs.Laws.Encoding.{length_encode}
 use Rattle.buffer.proofs.Laws.Buffer.{part, back_within, back_stands}
 
@@ -29,7 +29,7 @@ module _ {ys : List ℕ} (before : List ℕ) (start mid end : ℕ) {count : ℕ}
       let size : count ≡ 2 * size x = omega (arith, s.size, length_encode (normal x)) in
       (rw size at s, size)
 
-  pub reduced_large : {next : ℕ} {after : List ℕ} → 510 < count → Reduced before start mid end next TooLarge after
+  pub reduced_large : {next : ℕ} {after : List ℕ} → 510 < count → Reduced before start mid end next None after
   unfolding answer_of
   reduced_large l = record {
     answer = λ x p q f. let (s, c) = its_normal x p q f in rw (lt-ltb 255 (size x) (omega arith));
@@ -42,7 +42,7 @@ module _ {ys : List ℕ} (before : List ℕ) (start mid end : ℕ) {count : ℕ}
     as_long : length ys ≡ end - start
     as_long = l ∙ length-take-le (end - start) (drop start before) (rw length-drop (omega arith))
 
-    pub reduced : {next : ℕ} → count ≤ 510 → Reduced before start mid end next (Done next (start + count)) after
+    pub reduced : {next : ℕ} → count ≤ 510 → Reduced before start mid end next (done next (start + count)) after
     unfolding answer_of
     reduced c = record {
       answer = λ x p q f. let (s, g) = its_normal x p q f in rw (le-ltb 255 (size x) (omega arith), g);

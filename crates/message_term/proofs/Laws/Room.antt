@@ -1,4 +1,5 @@
 -- How far a term is worked ("Judging and its count"): 512 bytes for each node that is left on its path.
+use Rattle.std.specs.Prelude.{Option, Some}
 use mathlib.Core.Path.{◌≡◌}
 use mathlib.Core.List.{List}
 use Prim.Native.Nat.{ℕ, ◌+◌, ◌-◌, ◌*◌, ◌/◌, ◌%◌, ◌≤◌}
@@ -7,7 +8,6 @@ use lib.ListN.{length, set}
 use Rattle.buffer.specs.Buffer.{Within}
 use Rattle.message_term.specs.Work.{Reaches}
 use Rattle.message_term.specs.declared.work.Worked.{Worked}
-use Rattle.message_term.specs.declared.work.Worked.TheVariants.{Done}
 use Rattle.buffer.proofs.Laws.Buffer.{one_after, wider, node_within}
 
 -- What one node takes is less than its share.
@@ -22,9 +22,9 @@ pub node_room : {m n : List ℕ} {start left : ℕ} → (left ≡ 0 → ⊥) →
     → Within start (start + 512 * left) m n
 node_room {left} some w = wider w (omega arith) (omega arith)
 
-pub leaf_reaches : {start left : ℕ} {r : Worked} → (left ≡ 0 → ⊥) → Reaches start 1 r → Reaches start left r
+pub leaf_reaches : {start left : ℕ} {r : Option Worked} → (left ≡ 0 → ⊥) → Reaches start 1 r → Reaches start left r
 leaf_reaches some h = record {
-  there = λ i j e. let (low, high, one) = h.there i j e in (low, high, omega arith);
+  there = λ x e. let (low, high, one) = h.there x e in (low, high, omega arith);
 }
 
 pub ruleset term_rooms = (name_room, variable_room, node_room, leaf_reaches)
@@ -42,9 +42,9 @@ pub large_within : {m m₁ : List ℕ} (left start mid : ℕ) → Within mid (mi
     → Within start (mid + 512 * left) m m₁
 large_within left start mid w l = wider w l (omega arith)
 
-module _ {r : Worked} {left mid i end high : ℕ} (f : end ≡ high) (d : r ≡ Done i high) (h : Reaches mid left r) where
-  reached₂ : (mid ≤ high) × (high ≤ mid + 510) × (1 ≤ left)
-  reached₂ = h.there i high d
+module _ {r : Option Worked} {x : Worked} {left mid end : ℕ} (f : end ≡ x.end) (d : r ≡ Some x) (h : Reaches mid left r) where
+  reached₂ : (mid ≤ x.end) × (x.end ≤ mid + 510) × (1 ≤ left)
+  reached₂ = h.there x d
 
   pub end_above : mid ≤ end
   end_above = let g = reached₂ in omega arith
@@ -65,21 +65,21 @@ pub first_within : {m m₁ m₂ : List ℕ} (left start kind : ℕ) → Within (
 first_within {m} left start kind v w room =
     one_after (node_within m start kind w (omega arith)) v (omega arith) (omega arith) (omega arith) (omega arith)
 
-module _ {r : Worked} {i mid : ℕ} (left start : ℕ) (e : r ≡ Done i mid) (h : Reaches (start + 2) left r) where
-  reached₁ : (start + 2 ≤ mid) × (mid ≤ start + 2 + 510) × (1 ≤ left)
-  reached₁ = h.there i mid e
+module _ {r : Option Worked} {x : Worked} (left start : ℕ) (e : r ≡ Some x) (h : Reaches (start + 2) left r) where
+  reached₁ : (start + 2 ≤ x.end) × (x.end ≤ start + 2 + 510) × (1 ≤ left)
+  reached₁ = h.there x e
 
-  pub mid_above : start ≤ mid
+  pub mid_above : start ≤ x.end
   mid_above = let g = reached₁ in omega arith
 
-  pub mid_base : {base : ℕ} → base ≤ start → base ≤ mid
+  pub mid_base : {base : ℕ} → base ≤ start → base ≤ x.end
   mid_base l = let g = reached₁ in omega arith
 
   pub mid_room : {m m₁ : List ℕ} → Within start (start + 512 * (left + 1)) m m₁ → start + 512 * (left + 1) ≤ length m
-      → mid + 512 * left ≤ length m₁
+      → x.end + 512 * left ≤ length m₁
   mid_room w room = let g = reached₁ in omega (arith, w.long)
 
-  pub rest_within : {m m₁ m₂ : List ℕ} → Within start (mid + 512 * left) m₁ m₂ → Within start (start + 512 * (left + 1)) m m₁
+  pub rest_within : {m m₁ m₂ : List ℕ} → Within start (x.end + 512 * left) m₁ m₂ → Within start (start + 512 * (left + 1)) m m₁
       → Within start (start + 512 * (left + 1)) m m₂
   rest_within v w = let g = reached₁ in one_after w v (omega arith) (omega arith) (omega arith) (omega arith)
 

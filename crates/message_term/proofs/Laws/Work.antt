@@ -1,5 +1,6 @@
 -- A term worked from its leaves up ("Messages"): what its parts come to, and then the term itself.
-use mathlib.Core.Path.{◌≡◌, refl, sym, ◌∙◌}
+use Rattle.std.specs.Prelude.{Option, Some, None}
+use mathlib.Core.Path.{◌≡◌, refl, sym, ap, ◌∙◌}
 use mathlib.Core.Bool.{Bool, true, false}
 use mathlib.Core.List.{List}
 use Prim.Native.Nat.{ℕ, ◌+◌, ◌-◌, ◌≤◌}
@@ -18,9 +19,8 @@ use Rattle.message_term.specs.Bound.{BoundAt}
 use Rattle.message_term.specs.Work.{TermAt, answer_of, WorkedTo, Works}
 use Rattle.message_term.specs.Inner.{NameWorked, VariableWorked, Reduced, NodeWorked}
 use Rattle.message_term.specs.declared.work.Worked.{Worked}
-use Rattle.message_term.specs.declared.work.Worked.TheVariants.{Done, TooLarge}
 use Rattle.buffer.proofs.Laws.Buffer.{kept}
-use Rattle.message_term.proofs.Laws.Leaf.{done_or_large}
+use Rattle.message_term.proofs.Laws.Leaf.{done_or_large, some_same}
 use Rattle.message_term.proofs.Laws.Term.{term_kind, of_name, of_variable, of_proj, of_binary}
 
 -- The bound messages are still there.
@@ -37,25 +37,25 @@ still_bound {low} b w h l = record {
 }
 
 -- What an answer says of the term.
-module _ (b : Bool) (next end : ℕ) {r : Worked} (a : r ≡ answer_of b next end) where
-  pub said_over : r ≡ TooLarge → b ≡ true
+module _ (b : Bool) (next end : ℕ) {r : Option Worked} (a : r ≡ answer_of b next end) where
+  pub said_over : r ≡ None → b ≡ true
   unfolding answer_of
   said_over e = by_case b (sym a ∙ e)
     where
-      by_case : (b : Bool) → answer_of b next end ≡ TooLarge → b ≡ true
+      by_case : (b : Bool) → answer_of b next end ≡ None → b ≡ true
       by_case true f = refl
       by_case false f = absurd (done_or_large f)
 
-  pub said_small : {i j : ℕ} → r ≡ Done i j → (b ≡ false) × (i ≡ next) × (j ≡ end)
+  pub said_small : {x : Worked} → r ≡ Some x → (b ≡ false) × (x.next ≡ next) × (x.end ≡ end)
   unfolding answer_of
-  said_small {i} {j} e = by_case b (sym a ∙ e)
+  said_small {x} e = by_case b (sym a ∙ e)
     where
-      by_case : (b : Bool) → answer_of b next end ≡ Done i j → (b ≡ false) × (i ≡ next) × (j ≡ end)
+      by_case : (b : Bool) → answer_of b next end ≡ Some x → (b ≡ false) × (x.next ≡ next) × (x.end ≡ end)
       by_case true f = absurd (done_or_large (sym f))
-      by_case false f = (refl, cc, cc)
+      by_case false f = let same = sym (some_same f) in (refl, ap (λ w. w.next) same, ap (λ w. w.end) same)
 
 -- A node over the normal forms of its parts has the normal form of the whole.
-pub by_reduction : {before after : List ℕ} {start mid end next : ℕ} {r : Worked} {ρ : Bound} {t : Term} (x : Message)
+pub by_reduction : {before after : List ℕ} {start mid end next : ℕ} {r : Option Worked} {ρ : Bound} {t : Term} (x : Message)
     → Reduced before start mid end next r after → normal x ≡ worked ρ t → over ρ t ≡ over_whole ρ t → PartsNormal x
     → Stands before start (encode_message x) end → mid ≡ start + first_end x → WorkedTo ρ t start next r after
 by_reduction x d e o p q f = record {
@@ -74,11 +74,11 @@ binary_from_2 (cipher dec) = omega arith
 binary_from_2 mac = omega arith
 
 -- What is promised of one term.
-abbrev Promised : (s : List ℕ) (at left : ℕ) (m : List ℕ) (base start : ℕ) → Worked → (after : List ℕ) → Term → Type 0
+abbrev Promised : (s : List ℕ) (at left : ℕ) (m : List ℕ) (base start : ℕ) → Option Worked → (after : List ℕ) → Term → Type 0
 Promised s at left m base start r after t =
     (next : ℕ) (ρ : Bound) → TermAt s at left (length ρ) t next → BoundAt m base ρ start → WorkedTo ρ t start next r after
 
-module _ {s m after : List ℕ} {at left base start : ℕ} {r : Worked} where
+module _ {s m after : List ℕ} {at left base start : ℕ} {r : Option Worked} where
   for_each : ((t : Term) → Promised s at left m base start r after t) → Works s at left m base start r after
   for_each f = record { exact = λ t {next} ρ p b. f t next ρ p b }
 

@@ -1,4 +1,5 @@
 -- The traversal that builds: what is left of the copy of a repl thread, and the thread itself ("Steps").
+use Rattle.std.specs.Prelude.{Option, Some}
 use mathlib.Core.Path.{◌≡◌, refl, sym, ◌∙◌}
 use mathlib.Core.Bool.{Bool, true, false}
 use mathlib.Core.List.{List, [], ◌∷◌}
@@ -30,22 +31,20 @@ use Rattle.state_head.specs.Count.{Counts}
 use Rattle.state_head.specs.Traverse.{NamesFit, Ready, HeadTraverses, TraversesIf, Returns, ActsAs, copy_of, Opens}
 use Rattle.state_build.specs.Build.{OpensBuilt}
 use Rattle.state_head.specs.declared.head.Head.{Head}
-use Rattle.state_head.specs.declared.count.Counted.{Counted}
-use Rattle.state_head.specs.declared.count.Counted.TheVariants.{Names}
 use Rattle.state_head.proofs.Laws.Traverse.{is_prefix}
 use Rattle.state_head.proofs.Laws.Copy.{copy_done}
 use Rattle.state_head.proofs.Laws.Prefix.{on_build}
 use Rattle.state_traversal.proofs.Laws.Repl.{taking_meant, ready_for}
 
 -- A thread that acts by itself.
-pub is_act : {s argument m out after : List ℕ} {kind k : ℕ} {b : Plan} {now d r : Progress} {h : Head} → Renamed now h.names d
-    → kind ≡ get_or s h.at 0 → (kind ≡ 0 → ⊥) → (kind ≡ 6 → ⊥) → (kind ≡ 7 → ⊥)
+pub is_act : {s argument m out after : List ℕ} {k : ℕ} {b : Plan} {now d r : Progress} {h : Head} → Renamed now h.names d
+    → (get_or s h.at 0 ≡ 0 → ⊥) → (get_or s h.at 0 ≡ 6 → ⊥) → (get_or s h.at 0 ≡ 7 → ⊥)
     → ActsAs b s argument h.at h.left m h.end out d r after → HeadTraverses s argument h m (Build b k) out now r after
-is_act n e f₀ f₆ f₇ w = is_prefix n e f₀ f₆ f₇ (on_build refl w)
+is_act n f₀ f₆ f₇ w = is_prefix n f₀ f₆ f₇ (on_build refl w)
 
 -- A copy, whose names are counted.
-pub copy_built : {s argument m m₁ out after : List ℕ} {at left end k n next high : ℕ} {b : Plan} {a : Counted} {now d r : Progress}
-    → Counts s (at + 1) (left - 1) m end n a → a ≡ Names next
+pub copy_built : {s argument m m₁ out after : List ℕ} {at left end k n next high : ℕ} {b : Plan} {a : Option ℕ} {now d r : Progress}
+    → Counts s (at + 1) (left - 1) m end n a → a ≡ Some next
     → Returns now.names s argument (at + 1) (left - 1) m₁ end (Build b next) out d r after → Renamed now n d → Within end high m m₁
     → Opens (Build b k) n s argument at left m end out now r after
 unfolding opening

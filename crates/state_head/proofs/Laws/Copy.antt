@@ -1,4 +1,5 @@
 -- A copy of a repl thread that is opened ("Steps").
+use Rattle.std.specs.Prelude.{Option, Some, None}
 use mathlib.Core.Path.{◌≡◌}
 use mathlib.Core.List.{List}
 use Prim.Native.Nat.{ℕ, ◌+◌, ◌-◌, ◌≤◌}
@@ -14,8 +15,6 @@ use Rattle.state_head.specs.Traversal.{go}
 use Rattle.state_progress.specs.Represented.{RepresentsResult}
 use Rattle.state_head.specs.Traverse.{NamesFit, Meant, Ready, Traverses, Returns, Opens}
 use Rattle.state_head.specs.Count.{count_of, Counts}
-use Rattle.state_head.specs.declared.count.Counted.{Counted}
-use Rattle.state_head.specs.declared.count.Counted.TheVariants.{Names, OverLimit}
 use Rattle.state_progress.specs.Progress.{Stopped, Renamed}
 use Rattle.state_task.specs.declared.task.Task.{Task}
 use Rattle.state_progress.specs.declared.progress.Progress.{Progress}
@@ -58,13 +57,13 @@ copy_ready P U h y k f u = record {
 }
 
 -- Its names are counted, and then the task is done in it.
-module _ {s argument m : List ℕ} {at left end opens : ℕ} {T : Task} {a : Counted} (c : Counts s (at + 1) (left - 1) m end opens a) where
+module _ {s argument m : List ℕ} {at left end opens : ℕ} {T : Task} {a : Option ℕ} (c : Counts s (at + 1) (left - 1) m end opens a) where
   counts : (P : Process) (x : Message) (ρ : Bound) (g : Accumulated) → Ready s argument at left m end T (Process.repl P) x ρ g
       → opens + news P ≤ 32760 → a ≡ count_of P ρ opens
   counts P x ρ g y l =
       c.exact P ρ (record { next = y.next; process = of_repl P y.process; bound = y.bound; room = omega (arith, y.room); fits = l })
 
-  pub copy_over : {out : List ℕ} {now r : Progress} → a ≡ OverLimit → Stopped now r → Opens T opens s argument at left m end out now r out
+  pub copy_over : {out : List ℕ} {now r : Progress} → a ≡ None → Stopped now r → Opens T opens s argument at left m end out now r out
   unfolding opened
   copy_over is o = record {
     exact = λ P x ρ g y l v.
@@ -72,7 +71,7 @@ module _ {s argument m : List ℕ} {at left end opens : ℕ} {T : Task} {a : Cou
         rw (counted P x (at + 1) ρ (named opens g), large) o.over;
   }
 
-  pub copy_done : {m₁ out after : List ℕ} {high next : ℕ} {U : Task} {now d r : Progress} → a ≡ Names next
+  pub copy_done : {m₁ out after : List ℕ} {high next : ℕ} {U : Task} {now d r : Progress} → a ≡ Some next
       → Returns now.names s argument (at + 1) (left - 1) m₁ end U out d r after → U ≡ opening T next → Renamed now opens d
       → Within end high m m₁ → Opens T opens s argument at left m end out now r after
   unfolding opened

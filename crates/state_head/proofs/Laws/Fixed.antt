@@ -1,19 +1,19 @@
 -- The private names of a process that no message decides ("Steps"; "Judging and its count").
-use mathlib.Core.Path.{◌≡◌, refl}
+use Rattle.std.specs.Prelude.{Option, Some, None}
+use mathlib.Core.Path.{◌≡◌, refl, sym, ◌∙◌}
 use mathlib.Core.Bool.{false}
 use mathlib.Core.List.{List}
-use Prim.Native.Nat.{ℕ, zero, suc, ◌+◌, ◌-◌}
+use Prim.Native.Nat.{ℕ, zero, suc, ◌+◌}
 use native.Mathlib.Omega.{arith}
 use Rattle.meaning.specs.Messages.Term.{leaf, private}
 use Rattle.meaning.specs.Bytes.Process.{Process, nil, new, act, if, let_in, par, repl}
 use Rattle.meaning.specs.Steps.State.{Bound, ◌▸◌, names}
 use Rattle.meaning.specs.Judging.Limits.{over_settling}
-use Rattle.index_entry.specs.Entry.{together, fixed_names}
-use Rattle.index_process.specs.Index.{Fixes}
+use Rattle.index_entry.specs.Entry.{together, fixed_names, short}
+use Rattle.index_process.specs.Index.{one_less, Fixes}
 use Rattle.index_entry.proofs.Laws.Entry.{not_open}
 use Rattle.state_record.proofs.Laws.Process.{in_model}
 use Rattle.state_head.specs.Count.{Fixed, Counts}
-use Rattle.state_head.specs.declared.count.Counted.TheVariants.{Names}
 
 -- Names together that are not open: neither are those of the two.
 record Both (a b c : ℕ) : Type 0 where
@@ -50,21 +50,31 @@ takes (par P Q) ρ n e =
     record { fine = rw p.fine q.fine; next = omega (arith, p.next, q.next, t.sum) }
 takes (repl P) ρ n e = record { fine = refl; next = omega arith }
 
+-- A number is one thing, none another.
+some_or_none : {n : ℕ} → Some n ≡ None → ⊥
+some_or_none e = let z : ◌≡◌ {A = ℕ} 0 1 = cc in omega arith
+
+-- What the index has is all of them.
+all_names : (n : ℕ) {own : ℕ} → Some own ≡ one_less (short n) → n ≡ suc own
+all_names n e = not_open n (sym (of (short n) e)) (λ z. omega arith)
+  where
+    of : (k : ℕ) {own : ℕ} → Some own ≡ one_less k → k ≡ suc own
+    of zero e = absurd (some_or_none e)
+    of (suc k) e = cc
+
 -- So the names are counted at once.
 module _ {s : List ℕ} {at n : ℕ} where
-  pub open_names : Fixed s at n 0
-  open_names = record { exact = λ h. absurd (h refl) }
+  pub open_names : Fixed s at n None
+  open_names = record { exact = λ e. absurd (some_or_none (sym e)) }
 
-  pub fixed-names : {f : ℕ} → Fixes s at f → (f ≡ 0 → ⊥) → Fixed s at n (n + f)
-  fixed-names {f} x h = record {
-    exact = λ _ P ρ p.
-        let own : fixed_names P ≡ suc (f - 1) = omega (arith, not_open (fixed_names P) (x.same P p) h, h) in
-        let t = takes P ρ n own in
-        let next : n + f - 1 ≡ names P ρ n = omega (arith, t.next, h) in
-        rw (t.fine, ← next);
+  pub fixed-names : {f : Option ℕ} {own : ℕ} → Fixes s at f → f ≡ Some own → Fixed s at n (Some (n + own))
+  fixed-names {f} {own} x is = record {
+    exact = λ e P ρ p.
+        let t = takes P ρ n (all_names (fixed_names P) (sym is ∙ x.same P p)) in
+        rw (t.fine, t.next) (sym e);
   }
 
-  pub fixed_counted : {left end r : ℕ} {m : List ℕ} → Fixed s at n r → (r ≡ 0 → ⊥) → Counts s at left m end n (Names (r - 1))
-  fixed_counted x h = record { exact = λ P ρ y. x.exact h P ρ (in_model y.process) }
+  pub fixed_counted : {left end next : ℕ} {m : List ℕ} {r : Option ℕ} → Fixed s at n r → r ≡ Some next → Counts s at left m end n (Some next)
+  fixed_counted x e = record { exact = λ P ρ y. x.exact e P ρ (in_model y.process) }
 
 pub ruleset fixed_ones = (open_names, fixed-names, fixed_counted)

@@ -1,4 +1,5 @@
 -- The traversal of a process, by its head and the kind of that ("Steps": settling goes left to right).
+use Rattle.std.specs.Prelude.{Option, Some, None}
 use mathlib.Core.Path.{◌≡◌, refl, sym, ap, subst, ◌∙◌}
 use mathlib.Core.Bool.{true, false, not, true≢false}
 use mathlib.Core.List.{List}
@@ -59,8 +60,8 @@ head_ready {P = P} y a l = record {
 }
 
 -- A traversal that goes on, over the head.
-module _ {s argument m m₁ out after : List ℕ} {at left end : ℕ} {T : Task} {now r : Progress} {h : Head} (on : not now.going ≡ false)
-    (d : Descends s at left m end now.names h m₁) where
+module _ {s argument m m₁ out after : List ℕ} {at left end : ℕ} {T : Task} {now r : Progress} {c : Option Head} (on : not now.going ≡ false)
+    (d : Descends s at left m end now.names c m₁) where
   traverses_as : ((P : Process) (z : Message) (ρ : Bound) (g : Accumulated) → Ready s argument at left m end T P z ρ g → Represents s out now g
       → RepresentsResult s after r (go P T z at ρ (named now.names g))) → Traverses s argument at left m end T out now r after
   traverses_as f = record {
@@ -70,27 +71,27 @@ module _ {s argument m m₁ out after : List ℕ} {at left end : ℕ} {T : Task}
     };
   }
 
-  pub met_limit : h.going ≡ false → Stopped now r → Traverses s argument at left m end T out now r after
-  met_limit off o = traverses_as λ P z ρ g y v. rw ((d.over off P ρ (to_settle v.names y)).over T z g) o.over
+  pub met_limit : c ≡ None → Stopped now r → Traverses s argument at left m end T out now r after
+  met_limit none o = traverses_as λ P z ρ g y v. rw ((d.over none P ρ (to_settle v.names y)).over T z g) o.over
 
-  pub at_head : h.going ≡ true → Settled s h → h.left ≤ left → HeadTraverses s argument h m₁ T out now r after
+  pub at_head : {h : Head} → c ≡ Some h → Settled s h → h.left ≤ left → HeadTraverses s argument h m₁ T out now r after
       → Traverses s argument at left m end T out now r after
-  at_head there e l w = traverses_as λ P z ρ g y v.
-      let a = d.head there P ρ (to_settle v.names y) in
-      rw (a.traverses.same T z g) (w.exact (e.other there) a.process z a.bound g (head_ready y a l) v)
+  at_head {h} is e l w = traverses_as λ P z ρ g y v.
+      let a = d.head h is P ρ (to_settle v.names y) in
+      rw (a.traverses.same T z g) (w.exact (e.other) a.process z a.bound g (head_ready y a l) v)
 
 pub ruleset traverses = (was_stopped, met_limit, at_head)
 
 -- The head, by its kind.
-module _ {s argument m out after : List ℕ} {kind : ℕ} {T : Task} {now d r : Progress} {h : Head} (n : Renamed now h.names d)
-    (k : kind ≡ get_or s h.at 0) where
-  pub is_kind : {i : ℕ} → kind ≡ i → TraversesIf i s argument h.at h.left m h.end T out d r after → HeadTraverses s argument h m T out now r after
+module _ {s argument m out after : List ℕ} {T : Task} {now d r : Progress} {h : Head} (n : Renamed now h.names d) where
+  pub is_kind : {i : ℕ} → get_or s h.at 0 ≡ i → TraversesIf i s argument h.at h.left m h.end T out d r after
+      → HeadTraverses s argument h m T out now r after
   is_kind e w = record {
-    exact = λ f P z ρ g y v. (w.exact (sym k ∙ e)).exact P z ρ (named h.names g) y (renamed_shows h.names v n);
+    exact = λ f P z ρ g y v. (w.exact e).exact P z ρ (named h.names g) y (renamed_shows h.names v n);
   }
 
-  pub is_prefix : (kind ≡ 0 → ⊥) → (kind ≡ 6 → ⊥) → (kind ≡ 7 → ⊥) → AtPrefix s argument h.at h.left m h.end T out d r after
-      → HeadTraverses s argument h m T out now r after
+  pub is_prefix : (get_or s h.at 0 ≡ 0 → ⊥) → (get_or s h.at 0 ≡ 6 → ⊥) → (get_or s h.at 0 ≡ 7 → ⊥)
+      → AtPrefix s argument h.at h.left m h.end T out d r after → HeadTraverses s argument h m T out now r after
   unfolding go
   is_prefix f₀ f₆ f₇ w = record {
     exact = λ f P z ρ g y v. only f P z ρ (named h.names g) (process_kind P y.process).0 y (renamed_shows h.names v n);
@@ -98,19 +99,19 @@ module _ {s argument m out after : List ℕ} {kind : ℕ} {T : Task} {now d r : 
     where
       only : (Passing (get_or s h.at 0) → ⊥) → (P : Process) (z : Message) (ρ : Bound) (g : Accumulated) → get_or s h.at 0 ≡ kind_of P
           → Ready s argument h.at h.left m h.end T P z ρ g → Represents s out d g → RepresentsResult s after r (go P T z h.at ρ g)
-      only f nil z ρ g e y v = absurd (f₀ (k ∙ e))
+      only f nil z ρ g e y v = absurd (f₀ e)
       only f (new P) z ρ g e y v = absurd (f (inl e))
       only f (act p P) z ρ g e y v = w.exact p P z ρ g y v
       only f (if M N P Q) z ρ g e y v = absurd (f (inr (inl e)))
       only f (let_in M P) z ρ g e y v = absurd (f (inr (inr e)))
-      only f (par P Q) z ρ g e y v = absurd (f₆ (k ∙ e))
-      only f (repl P) z ρ g e y v = absurd (f₇ (k ∙ e))
+      only f (par P Q) z ρ g e y v = absurd (f₆ e)
+      only f (repl P) z ρ g e y v = absurd (f₇ e)
 
-pub is_nil : {s argument m out : List ℕ} {kind : ℕ} {T : Task} {now d : Progress} {h : Head} → Renamed now h.names d
-    → kind ≡ get_or s h.at 0 → kind ≡ 0 → HeadTraverses s argument h m T out now d out
+pub is_nil : {s argument m out : List ℕ} {T : Task} {now d : Progress} {h : Head} → Renamed now h.names d
+    → get_or s h.at 0 ≡ 0 → HeadTraverses s argument h m T out now d out
 unfolding go
-is_nil {h = h} n k e = record {
-  exact = λ f P z ρ g y v. let i = shaped 0 P y.process (sym k ∙ e) in rw i (renamed_shows h.names v n);
+is_nil {h = h} n e = record {
+  exact = λ f P z ρ g y v. let i = shaped 0 P y.process e in rw i (renamed_shows h.names v n);
 }
 
 pub ruleset nodes = (is_nil, is_kind, is_prefix)

@@ -1,5 +1,6 @@
 -- The messages that an offer hands over ("Steps").
-use mathlib.Core.Path.{◌≡◌, refl, ap, ◌∙◌}
+use Rattle.std.specs.Prelude.{Option, Some, None}
+use mathlib.Core.Path.{◌≡◌, refl, ap}
 use mathlib.Core.Bool.{Bool, false}
 use mathlib.Core.List.{List, [], ◌++◌, append-nil}
 use Prim.Native.Nat.{ℕ, ◌+◌, ◌-◌, ◌≤◌, ◌<◌}
@@ -18,7 +19,6 @@ use Rattle.buffer.proofs.Laws.Buffer.{kept, part, put_within, put_stands}
 use Rattle.message_term.specs.Bound.{BoundTo, BoundAt}
 use Rattle.message_term.specs.Work.{TermAt, Works, Reaches}
 use Rattle.message_term.specs.declared.work.Worked.{Worked}
-use Rattle.message_term.specs.declared.work.Worked.TheVariants.{Done, TooLarge}
 use Rattle.message_term.proofs.Laws.Work.{said_over, said_small}
 use Rattle.state_record.specs.Place.{ProcessAt, body_at}
 use Rattle.state_progress.specs.TraversalResult.{Accumulated}
@@ -82,23 +82,23 @@ sent_extends n = record { aliases = refl; start = refl; end = omega arith }
 pub ruleset sends = (no_start, no_space, sent_within, sent_over, sent_extends)
 
 -- How far a term goes that was worked.
-module _ {w : Worked} {i last : ℕ} (mid : ℕ) (e : w ≡ Done i last) (h : Reaches mid 8 w) where
-  pub last_above : mid ≤ last
-  last_above = (h.there i last e).0
+module _ {w : Option Worked} {x : Worked} (mid : ℕ) (e : w ≡ Some x) (h : Reaches mid 8 w) where
+  pub last_above : mid ≤ x.end
+  last_above = (h.there x e).0
 
-  pub second_above : {end : ℕ} → end ≤ mid → end ≤ last
-  second_above l = let (low, high, one) = h.there i last e in omega arith
+  pub second_above : {end : ℕ} → end ≤ mid → end ≤ x.end
+  second_above l = let (low, high, one) = h.there x e in omega arith
 
-  pub last_within : {m m₁ : List ℕ} → Within mid (mid + 4096) m m₁ → mid + 4096 ≤ length m → last ≤ length m₁
-  last_within v l = let (low, high, one) = h.there i last e in omega (arith, v.long)
+  pub last_within : {m m₁ : List ℕ} → Within mid (mid + 4096) m m₁ → mid + 4096 ≤ length m → x.end ≤ length m₁
+  last_within v l = let (low, high, one) = h.there x e in omega (arith, v.long)
 
-  pub first_within : {m m₁ : List ℕ} → Within mid (mid + 4096) m m₁ → mid + 4606 ≤ length m → last ≤ length m₁
-  first_within v l = let (low, high, one) = h.there i last e in omega (arith, v.long)
+  pub first_within : {m m₁ : List ℕ} → Within mid (mid + 4096) m m₁ → mid + 4606 ≤ length m → x.end ≤ length m₁
+  first_within v l = let (low, high, one) = h.there x e in omega (arith, v.long)
 
-  pub room_after : {m m₁ : List ℕ} → Within mid (mid + 4096) m m₁ → mid + 4606 ≤ length m → last + 4096 ≤ length m₁
-  room_after v l = let (low, high, one) = h.there i last e in omega (arith, v.long)
+  pub room_after : {m m₁ : List ℕ} → Within mid (mid + 4096) m m₁ → mid + 4606 ≤ length m → x.end + 4096 ≤ length m₁
+  room_after v l = let (low, high, one) = h.there x e in omega (arith, v.long)
 
-  pub both_to_end : {m m₁ m₂ : List ℕ} {high : ℕ} → Within mid (mid + 4096) m m₁ → Within last high m₁ m₂ → Within mid (length m) m m₂
+  pub both_to_end : {m m₁ m₂ : List ℕ} {high : ℕ} → Within mid (mid + 4096) m m₁ → Within x.end high m₁ m₂ → Within mid (length m) m m₂
   both_to_end v v₁ = to_end_twice v v₁ last_above
 
 pub ruleset reaches = (last_above, second_above, last_within, first_within, room_after, both_to_end)
@@ -108,8 +108,8 @@ pub bound_below : {m : List ℕ} {end last : ℕ} {ρ : Bound} → BoundTo m 0 �
 bound_below {end} b l = record { end = end; bound = b; below = l }
 
 -- An input hands over nothing.
-module _ {s m out : List ℕ} {at next end last k kind : ℕ} {now : Progress} (e : kind ≡ get_or s at 0) where
-  pub hands_nothing : {r : Progress} → kind ≡ 3 → Hits now at k r → Hands s at next m end last k out now r out
+module _ {s m out : List ℕ} {at next end last k : ℕ} {now : Progress} where
+  pub hands_nothing : {r : Progress} → get_or s at 0 ≡ 3 → Hits now at k r → Hands s at next m end last k out now r out
   unfolding encode_messages
   hands_nothing {r} z h = record { exact = λ p. only p }
     where
@@ -126,7 +126,7 @@ module _ {s m out : List ℕ} {at next end last k kind : ℕ} {now : Progress} (
       }
 
   -- The message of an output stands behind its channel.
-  module _ (z : kind ≡ 3 → ⊥) {w : Worked} {m₁ : List ℕ} (f : Works s next 8 m 0 last w m₁) (l : end ≤ last) {r : Progress} where
+  module _ (z : get_or s at 0 ≡ 3 → ⊥) {w : Option Worked} {m₁ : List ℕ} (f : Works s next 8 m 0 last w m₁) (l : end ≤ last) {r : Progress} where
     -- It is a prefix with a message.
     for_output : {after : List ℕ}
         → ((C M : Term) (ρ : Bound) (g : Accumulated) → TermAt s next 8 (length ρ) M (next + length (encode_term M)) → BoundAt m 0 ρ last
@@ -139,20 +139,20 @@ module _ {s m out : List ℕ} {at next end last k kind : ℕ} {now : Progress} (
             → Stands m end (encode_message (worked ρ (channel_of p))) last → last ≤ end + 510 → Represents s out now g
             → RepresentsResult s after r (handed_over at k ρ p)
         only (output C M) P ρ g q b n c j d = here C M ρ g (rw (← n) at (of_output C M P q).1) (bound_below b l) c j d
-        only (input C) P ρ g q b n c j d = absurd (z (e ∙ (process_kind (Process.act (input C) P) q).0))
+        only (input C) P ρ g q b n c j d = absurd (z (process_kind (Process.act (input C) P) q).0)
 
-    pub hands_large : w ≡ TooLarge → Stopped now r → Hands s at next m end last k out now r out
+    pub hands_large : w ≡ None → Stopped now r → Hands s at next m end last k out now r out
     hands_large y o = for_output (λ C M ρ g t b c j d. rw (said_over _ _ _ (f.exact M ρ t b).answer y) o.over)
 
-    pub hands_over : {i top : ℕ} {after : List ℕ} → w ≡ Done i top → Reaches last 8 w → Within last (last + 4096) m m₁
-        → HandsMessages m₁ end top at k out now r after → Hands s at next m end last k out now r after
+    pub hands_over : {x : Worked} {after : List ℕ} → w ≡ Some x → Reaches last 8 w → Within last (last + 4096) m m₁
+        → HandsMessages m₁ end x.end at k out now r after → Hands s at next m end last k out now r after
     unfolding encode_messages
-    hands_over {i} {top} y h v x = for_output (λ C M ρ g t b c j d.
+    hands_over {x} y h v z = for_output (λ C M ρ g t b c j d.
         let u = f.exact M ρ t b in
         let (o, n, ends) = said_small _ _ _ u.answer y in
         let own : Stands m₁ end (encode_message (worked ρ C)) last = kept {low = last} c (omega arith) v.below in
-        let other : Stands m₁ last (encode_message (worked ρ M) ++ []) top = rw (append-nil, ends) (u.run o) in
-        let (low, high, one) = h.there i top y in
-        rw o (x.exact s g (worked ρ C) (worked ρ M) (own ⨾ other) (omega arith) d))
+        let other : Stands m₁ last (encode_message (worked ρ M) ++ []) x.end = rw (append-nil, ends) (u.run o) in
+        let (low, high, one) = h.there x y in
+        rw o (z.exact s g (worked ρ C) (worked ρ M) (own ⨾ other) (omega arith) d))
 
 pub ruleset hands = (hands_nothing, hands_large, hands_over)

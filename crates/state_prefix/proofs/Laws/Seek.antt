@@ -1,4 +1,5 @@
 -- An offer that is looked for: whether it is eligible, and its channel ("Steps").
+use Rattle.std.specs.Prelude.{Option, Some, None}
 use mathlib.Core.Path.{◌≡◌, refl, ap, ◌∙◌}
 use mathlib.Core.Bool.{Bool, true, false, not, ◌&&◌, ◌||◌}
 use mathlib.Core.List.{List}
@@ -21,7 +22,6 @@ use Rattle.buffer.proofs.Laws.Buffer.{part}
 use Rattle.message_term.specs.Bound.{BoundTo}
 use Rattle.message_term.specs.Work.{TermAt, Works, Reaches}
 use Rattle.message_term.specs.declared.work.Worked.{Worked}
-use Rattle.message_term.specs.declared.work.Worked.TheVariants.{Done, TooLarge}
 use Rattle.message_term.proofs.Laws.Work.{said_over, said_small}
 use Rattle.state_record.specs.Place.{ProcessAt, body_at}
 use Rattle.state_progress.specs.TraversalResult.{Accumulated, going, unless}
@@ -76,37 +76,37 @@ channel_at (output C M) P q = (of_output C M P q).0
 channel_at (input C) P q = of_input C P q
 
 -- It is too large; or it is small, and was compared.
-module _ {s m m₁ : List ℕ} {at end : ℕ} {w : Worked} (f : Works s (at + 1) 8 m 0 end w m₁) where
-  pub channel_large : {argument out : List ℕ} {k : ℕ} {any : Bool} {now r : Progress} → w ≡ TooLarge → Stopped now r
+module _ {s m m₁ : List ℕ} {at end : ℕ} {w : Option Worked} (f : Works s (at + 1) 8 m 0 end w m₁) where
+  pub channel_large : {argument out : List ℕ} {k : ℕ} {any : Bool} {now r : Progress} → w ≡ None → Stopped now r
       → Channels s argument at m end any k out now r out
   channel_large y o = record {
     exact = λ p P x ρ g q b n d.
         rw (said_over _ _ _ (f.exact (channel_of p) ρ (channel_at p P q) (bound_below b (omega arith))).answer y) o.over;
   }
 
-  module _ {argument : List ℕ} {next last : ℕ} {any a : Bool} (y : w ≡ Done next last)
-      (z : Agrees any (take (last - end) (drop end m₁)) argument a) where
+  module _ {argument : List ℕ} {t : Worked} {any a : Bool} (y : w ≡ Some t)
+      (z : Agrees any (take (t.end - end) (drop end m₁)) argument a) where
     compared : (p : Prefix) (P : Process) (x : Message) (ρ : Bound) {left stop : ℕ}
         → ProcessAt s at left (length ρ) (Process.act p P) stop → BoundTo m 0 ρ end → argument ≡ encode_message x
-        → (over ρ (channel_of p) ≡ false) × (next ≡ body_at at (channel_of p))
-        × Stands m₁ end (encode_message (worked ρ (channel_of p))) last × (a ≡ (any || same (worked ρ (channel_of p)) x))
+        → (over ρ (channel_of p) ≡ false) × (t.next ≡ body_at at (channel_of p))
+        × Stands m₁ end (encode_message (worked ρ (channel_of p))) t.end × (a ≡ (any || same (worked ρ (channel_of p)) x))
     compared p P x ρ q b n =
         let u = f.exact (channel_of p) ρ (channel_at p P q) (bound_below b (omega arith)) in
         let (o, i, ends) = said_small _ _ _ u.answer y in
-        let own : Stands m₁ end (encode_message (worked ρ (channel_of p))) last = rw ends (u.run o) in
+        let own : Stands m₁ end (encode_message (worked ρ (channel_of p))) t.end = rw ends (u.run o) in
         (o, i, own, z.exact (worked ρ (channel_of p)) x (part own) n)
 
     pub channel_other : {out : List ℕ} {k : ℕ} {now : Progress} → a ≡ false → Channels s argument at m end any k out now now out
-    channel_other t = record {
-      exact = λ p P x ρ g q b n d. let (o, i, own, c) = compared p P x ρ q b n in rw (o, ← c, t) d;
+    channel_other f = record {
+      exact = λ p P x ρ g q b n d. let (o, i, own, c) = compared p P x ρ q b n in rw (o, ← c, f) d;
     }
 
     pub channel_meant : {out after : List ℕ} {k : ℕ} {now r : Progress} → a ≡ true → Reaches end 8 w → Within end (end + 4096) m m₁
-        → Hands s at next m₁ end last k out now r after → Channels s argument at m end any k out now r after
-    channel_meant t h v j = record {
+        → Hands s at t.next m₁ end t.end k out now r after → Channels s argument at m end any k out now r after
+    channel_meant f h v j = record {
       exact = λ p P x ρ g q b n d.
           let (o, i, own, c) = compared p P x ρ q b n in
-          rw (o, ← c, t) (j.exact p P ρ g q (bound_still b v) i own (h.there next last y).1 d);
+          rw (o, ← c, f) (j.exact p P ρ g q (bound_still b v) i own (h.there t y).1 d);
     }
 
 pub ruleset channels = (channel_large, channel_other, channel_meant)

@@ -1,4 +1,5 @@
 -- A thread written into a state, or a limit that it meets ("Judging and its count": 32 threads, 1,024 nodes).
+use Rattle.std.specs.Prelude.{Option, Some, None}
 use mathlib.Core.Path.{◌≡◌, refl, sym, ◌∙◌}
 use mathlib.Core.Bool.{Bool, true, false, ◌||◌}
 use mathlib.Core.List.{List, [], ◌∷◌, ◌++◌, append_assoc, append-nil}
@@ -25,8 +26,6 @@ use Rattle.state_progress.specs.Progress.{Extends, Stopped}
 use Rattle.state_progress.specs.Written.{Pushes}
 use Rattle.state_progress.specs.declared.progress.Progress.{Progress}
 use Rattle.state_record.specs.declared.state.State.{State}
-use Rattle.state_record.specs.declared.state.Grown.{Grown}
-use Rattle.state_record.specs.declared.state.Grown.TheVariants.{To, Full}
 use Rattle.state_record.proofs.Laws.Room.{record_room}
 
 -- A limit is met where a test says so, and the traversal goes on where none does.
@@ -68,7 +67,7 @@ module _ {s out : List ℕ} {now : Progress} {g : Accumulated} {v size : ℕ} (t
   sized = l ∙ bound_length (bound_of t.thread)
 
   -- Where there is no room, the state would be over a limit: its bytes are never what is short.
-  none_more : {b : Grown} → Grows now.state v size (length out) b → b ≡ Full → push t.place t.thread g ≡ over_limit
+  none_more : {b : Option State} → Grows now.state v size (length out) b → b ≡ None → push t.place t.thread g ≡ over_limit
   none_more grows e =
       over-one t.place t.thread g (λ h o. grows.none e (record {
         threads = omega (arith, d.threads);
@@ -77,7 +76,7 @@ module _ {s out : List ℕ} {now : Progress} {g : Accumulated} {v size : ℕ} (t
         bytes = omega (arith, d.size, d.room, d.threads, d.nodes, sized, few);
       }))
 
-  written_more : {b : Grown} {f : State} {after : List ℕ} {high : ℕ} → Grows now.state v size (length out) b → b ≡ To f
+  written_more : {b : Option State} {f : State} {after : List ℕ} {high : ℕ} → Grows now.state v size (length out) b → b ≡ Some f
       → Stands after now.state.end (encode_record t) (now.state.end + 4 + size) → Within now.state.end high out after
       → RepresentsResult s after (record { going = true; names = now.names; mark = 0; sent = 0; state = f }) (push t.place t.thread g)
   written_more {f = f} grows e x k =
@@ -105,7 +104,7 @@ module _ (m out : List ℕ) (end place v : ℕ) (now : Progress) (w : NodesOf (t
   long : (ρ : Bound) → BoundTo m 0 ρ end → end ≡ length (encode_bound ρ)
   long ρ b = omega (arith, b.stands.size)
 
-  pub no_room : {b : Grown} {r : Progress} → Grows now.state v end (length out) b → b ≡ Full → Stopped now r
+  pub no_room : {b : Option State} {r : Progress} → Grows now.state v end (length out) b → b ≡ None → Stopped now r
       → Pushes m end place out now r out
   no_room grows e o = record {
     exact = λ s t g b p d.
@@ -113,7 +112,7 @@ module _ (m out : List ℕ) (end place v : ℕ) (now : Progress) (w : NodesOf (t
         rw (none_more u (counted (bound_of t) b) (long (bound_of t) b) p d grows e) o.over;
   }
 
-  pub one_more : {b : Grown} {f : State} → Grows now.state v end (length out) b → b ≡ To f
+  pub one_more : {b : Option State} {f : State} → Grows now.state v end (length out) b → b ≡ Some f
       → {after : List ℕ} → Written (take (end - 0) m) place now.state.end after
       → Within now.state.end (now.state.end + 4 + length (take (end - 0) m)) out after
       → Pushes m end place out now (record { going = true; names = now.names; mark = 0; sent = 0; state = f }) after
@@ -128,12 +127,12 @@ module _ (m out : List ℕ) (end place v : ℕ) (now : Progress) (w : NodesOf (t
 pub ruleset pushes = (no_room, one_more)
 
 -- What a call of it writes, and that the state begins where it did and ends no earlier.
-module _ {st f : State} {nodes long : ℕ} (end : ℕ) {r : Grown} (w : Grows st nodes end long r) (y : r ≡ To f) where
+module _ {st f : State} {nodes long : ℕ} (end : ℕ) {r : Option State} (w : Grows st nodes end long r) (y : r ≡ Some f) where
   pub push_within : (m : List ℕ) {out after : List ℕ} → length out ≡ long
       → Within st.end (st.end + 4 + length (take (end - 0) m)) out after → Within st.end (length out) out after
   push_within m e k = wider k (omega arith) (omega (arith, record_room end m w y))
 
-pub pushed_extends : {now : Progress} {f : State} {nodes size long names : ℕ} {r : Grown} → Grows now.state nodes size long r → r ≡ To f
+pub pushed_extends : {now : Progress} {f : State} {nodes size long names : ℕ} {r : Option State} → Grows now.state nodes size long r → r ≡ Some f
     → Extends now (record { going = true; names = names; mark = 0; sent = 0; state = f })
 pushed_extends {f = f} w y = record { aliases = rw (w.state f y); start = rw (w.state f y); end = rw (w.state f y) (omega arith) }
 

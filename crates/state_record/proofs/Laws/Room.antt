@@ -1,4 +1,5 @@
 -- Room in a state for one thread more ("Judging and its count").
+use Rattle.std.specs.Prelude.{Option, Some, None}
 use mathlib.Core.Path.{◌≡◌, sym}
 use Prim.Native.Nat.{ℕ, ◌+◌, ◌-◌, ◌≤◌, ◌<◌}
 use native.Mathlib.Omega.{arith}
@@ -6,38 +7,36 @@ use lib.ListN.{length, take, length-take}
 use mathlib.Core.List.{List}
 use Rattle.state_record.specs.Room.{RoomForThread, Grows}
 use Rattle.state_record.specs.declared.state.State.{State}
-use Rattle.state_record.specs.declared.state.Grown.{Grown}
-use Rattle.state_record.specs.declared.state.Grown.TheVariants.{To, Full}
 
 -- A state is one thing, none another.
-to_or_full : {f : State} → To f ≡ Full → ⊥
-to_or_full e = let z : ◌≡◌ {A = ℕ} 0 1 = cc in omega arith
+some_or_none : {f : State} → Some f ≡ None → ⊥
+some_or_none e = let z : ◌≡◌ {A = ℕ} 0 1 = cc in omega arith
 
 module _ {st : State} {nodes size long : ℕ} where
-  no_room : (RoomForThread st nodes size long → ⊥) → Grows st nodes size long Full
-  no_room f = record { room = λ g e. absurd (to_or_full (sym e)); state = λ g e. absurd (to_or_full (sym e)); none = λ e. f }
+  no_room : (RoomForThread st nodes size long → ⊥) → Grows st nodes size long None
+  no_room f = record { room = λ g e. absurd (some_or_none (sym e)); state = λ g e. absurd (some_or_none (sym e)); none = λ e. f }
 
-  pub threads_full : 32 ≤ st.threads → Grows st nodes size long Full
+  pub threads_full : 32 ≤ st.threads → Grows st nodes size long None
   threads_full h = no_room (λ p. omega (arith, p.threads))
 
-  pub nodes_over : 1024 < st.nodes → Grows st nodes size long Full
+  pub nodes_over : 1024 < st.nodes → Grows st nodes size long None
   nodes_over h = no_room (λ p. omega (arith, p.total))
 
-  pub nodes_full : 1024 - st.nodes < nodes → st.nodes ≤ 1024 → Grows st nodes size long Full
+  pub nodes_full : 1024 - st.nodes < nodes → st.nodes ≤ 1024 → Grows st nodes size long None
   nodes_full h l = no_room (λ p. omega (arith, p.total))
 
-  pub too_long : 2072 < size → Grows st nodes size long Full
+  pub too_long : 2072 < size → Grows st nodes size long None
   too_long h = no_room (λ p. omega (arith, p.short))
 
-  pub no_bytes : long < st.end → Grows st nodes size long Full
+  pub no_bytes : long < st.end → Grows st nodes size long None
   no_bytes h = no_room (λ p. omega (arith, p.bytes))
 
-  pub few_bytes : long - st.end < 4 + size → Grows st nodes size long Full
+  pub few_bytes : long - st.end < 4 + size → Grows st nodes size long None
   few_bytes h = no_room (λ p. omega (arith, p.bytes))
 
   pub some_room : st.threads < 32 → st.nodes ≤ 1024 → nodes ≤ 1024 - st.nodes → size ≤ 2072 → st.end ≤ long
       → 4 + size ≤ long - st.end → Grows st nodes size long
-      (To (record {
+      (Some (record {
         aliases = st.aliases;
         start = st.start;
         end = st.end + 4 + size;
@@ -48,13 +47,13 @@ module _ {st : State} {nodes size long : ℕ} where
   some_room t o n z e b = record {
     room = λ f g. record { threads = t; total = omega arith; short = z; bytes = omega arith };
     state = λ f g. cc;
-    none = λ g. absurd (to_or_full g);
+    none = λ g. absurd (some_or_none g);
   }
 
 pub ruleset grows = (threads_full, nodes_over, nodes_full, too_long, no_bytes, few_bytes, some_room)
 
 -- What the record of the thread takes.
-module _ {st f : State} {nodes long : ℕ} (end : ℕ) {r : Grown} (m : List ℕ) (w : Grows st nodes end long r) (y : r ≡ To f) where
+module _ {st f : State} {nodes long : ℕ} (end : ℕ) {r : Option State} (m : List ℕ) (w : Grows st nodes end long r) (y : r ≡ Some f) where
   longest : length (take (end - 0) m) ≤ end
   longest = omega (arith, length-take (end - 0) m)
 

@@ -1,6 +1,6 @@
 -- Which copies of a repl thread are opened, and what is done with the thread itself ("Steps"): each case of the code.
 use mathlib.Core.Path.{◌≡◌, refl, sym, ◌∙◌}
-use mathlib.Core.Bool.{Bool, true, false}
+use mathlib.Core.Bool.{Bool, true, false, not}
 use mathlib.Core.List.{List, []}
 use Prim.Native.Nat.{ℕ, ◌+◌, ◌≤◌, ◌<◌}
 use native.Mathlib.Omega.{arith}
@@ -85,23 +85,30 @@ module _ {s : List ℕ} {at : ℕ} (f : ℕ) (past : Bool) where
   pass_here e = record { exact = λ P p. rw (eq-eqb (at + 1) f e, passes) }
 
   module _ (e : at + 1 ≡ f → ⊥) where
-    pub pass_not : {b : Bool} → Contains s (at + 1) f b → b ≡ true → at + 1 < f → Decided Bool s at (passes f past at) false
+    pass_not : Contains s (at + 1) f true → at + 1 < f → Decided Bool s at (passes f past at) false
     unfolding passes
-    pass_not w t l = record {
-      exact = λ P p. rw (ne_eqb (at + 1) f e, passes) (rw (lt-ltb (at + 1) f l) (rw (sym (w.exact P p) ∙ t)));
+    pass_not w l = record {
+      exact = λ P p. rw (ne_eqb (at + 1) f e, passes) (rw (lt-ltb (at + 1) f l) (rw (← w.exact P p)));
     }
 
-    pub pass_before : {b : Bool} → Contains s (at + 1) f b → b ≡ false → at + 1 < f → Decided Bool s at (passes f past at) true
+    pass_before : Contains s (at + 1) f false → at + 1 < f → Decided Bool s at (passes f past at) true
     unfolding passes
-    pass_before w t l = record {
-      exact = λ P p. rw (ne_eqb (at + 1) f e, passes) (rw (lt-ltb (at + 1) f l) (rw (sym (w.exact P p) ∙ t)));
+    pass_before w l = record {
+      exact = λ P p. rw (ne_eqb (at + 1) f e, passes) (rw (lt-ltb (at + 1) f l) (rw (← w.exact P p)));
     }
+
+    pub pass_inner : {b : Bool} → Contains s (at + 1) f b → at + 1 < f → Decided Bool s at (passes f past at) (not b)
+    pass_inner {b} w l = by_answer b w
+      where
+        by_answer : (b : Bool) → Contains s (at + 1) f b → Decided Bool s at (passes f past at) (not b)
+        by_answer true w = pass_not w l
+        by_answer false w = pass_before w l
 
     pub pass_later : f ≤ at + 1 → Decided Bool s at (passes f past at) false
     unfolding passes
     pass_later l = record { exact = λ P p. rw (ne_eqb (at + 1) f e, passes) (rw (le-ltb (at + 1) f l)) }
 
-pub ruleset passings = (pass_here, pass_not, pass_before, pass_later)
+pub ruleset passings = (pass_here, pass_inner, pass_later)
 
 module _ {s : List ℕ} {at : ℕ} {b : Bool} {r : Copies} (f k : ℕ) (past : Bool) (d : Decided Bool s at (passes f past at) b) where
   pub find_none : b ≡ true → r ≡ one Passed None → Decided Copies s at (finding f past k at) r

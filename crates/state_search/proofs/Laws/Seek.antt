@@ -1,4 +1,5 @@
 -- The traversal that seeks an offer is the traversal of that task: its numbers, and each kind of process ("Steps").
+use Rattle.std.specs.Prelude.{Option, Some, None}
 use mathlib.Core.Path.{◌≡◌, refl, sym, ◌∙◌}
 use mathlib.Core.Bool.{Bool, true, false, true≢false}
 use mathlib.Core.List.{List, [], ◌∷◌}
@@ -30,8 +31,6 @@ use Rattle.state_head.specs.Count.{Counts}
 use Rattle.state_head.specs.Traverse.{Ready, copy_of}
 use Rattle.state_search.specs.Seek.{begun_at, reached, Comes, GivesBack, SeekTraverses, SeekTraversesIf, SeekOpens}
 use Rattle.state_head.specs.declared.head.Head.{Head}
-use Rattle.state_head.specs.declared.count.Counted.{Counted}
-use Rattle.state_head.specs.declared.count.Counted.TheVariants.{Names, OverLimit}
 use Rattle.state_search.specs.declared.seek.Sought.{Sought}
 use Rattle.state_search.specs.declared.seek.Sought.TheVariants.{On, Ended}
 use Rattle.state_head.proofs.Laws.TraversalResult.{sought_ends}
@@ -100,24 +99,24 @@ own_numbers {s} {out = out} {after} {at} {n = n} {k} {to} {high} {q} {d = d} {r}
     last g v (found x j ms) f z = rw (c.ended z.off) (record { off = refl; mark = z.mark; next = z.next; messages = z.messages })
 
 -- A process, by its head.
-module _ {s argument m m₁ out : List ℕ} {at left end n k to : ℕ} {q : Quest} {h : Head} (d : Descends s at left m end n h m₁) where
-  pub seek_over : {j : ℕ} → h.going ≡ false → SeekTraverses s argument at left m end q n k to out (Ended j 0 0 to) out
-  seek_over {j} off = record { traverses = met_limit refl d off (over to n j) }
+module _ {s argument m m₁ out : List ℕ} {at left end n k to : ℕ} {q : Quest} {c : Option Head} (d : Descends s at left m end n c m₁) where
+  pub seek_over : {j : ℕ} → c ≡ None → SeekTraverses s argument at left m end q n k to out (Ended j 0 0 to) out
+  seek_over {j} stops = record { traverses = met_limit refl d stops (over to n j) }
 
-  module _ {kind : ℕ} (on : h.going ≡ true) (e : Settled s h) (l : h.left ≤ left) (c : kind ≡ get_or s h.at 0) where
-    pub seek_nil : kind ≡ 0 → SeekTraverses s argument at left m end q n k to out (On h.names) out
-    seek_nil z = record { traverses = at_head refl d on e l (is_nil (begun to n h.names) c z) }
+  module _ {h : Head} (is : c ≡ Some h) (e : Settled s h) (l : h.left ≤ left) where
+    pub seek_nil : get_or s h.at 0 ≡ 0 → SeekTraverses s argument at left m end q n k to out (On h.names) out
+    seek_nil z = record { traverses = at_head refl d is e l (is_nil (begun to n h.names) z) }
 
     module _ {after : List ℕ} {r : Sought} where
-      pub seek_kind : {i : ℕ} → kind ≡ i → SeekTraversesIf i s argument h.at h.left m₁ h.end q h.names k to out r after
+      pub seek_kind : {i : ℕ} → get_or s h.at 0 ≡ i → SeekTraversesIf i s argument h.at h.left m₁ h.end q h.names k to out r after
           → SeekTraverses s argument at left m end q n k to out r after
-      seek_kind z w = record { traverses = at_head refl d on e l (is_kind (begun to n h.names) c z w.traverses) }
+      seek_kind z w = record { traverses = at_head refl d is e l (is_kind (begun to n h.names) z w.traverses) }
 
-      pub seek_prefix : (kind ≡ 0 → ⊥) → (kind ≡ 6 → ⊥) → (kind ≡ 7 → ⊥)
+      pub seek_prefix : (get_or s h.at 0 ≡ 0 → ⊥) → (get_or s h.at 0 ≡ 6 → ⊥) → (get_or s h.at 0 ≡ 7 → ⊥)
           → Seeks s argument h.at m₁ h.end q k out (begun_at to h.names) (reached to r) after
           → SeekTraverses s argument at left m end q n k to out r after
       seek_prefix f₀ f₆ f₇ w = record {
-        traverses = at_head refl d on e l (is_prefix (begun to n h.names) c f₀ f₆ f₇ (on_seek refl w));
+        traverses = at_head refl d is e l (is_prefix (begun to n h.names) f₀ f₆ f₇ (on_seek refl w));
       }
 
 pub ruleset heads_sought = (seek_over, seek_nil, seek_kind, seek_prefix)
@@ -136,11 +135,11 @@ module _ {s argument m out out₁ : List ℕ} {at left end n k to : ℕ} {q : Qu
 pub ruleset pars_sought = (first_ended, both_sought)
 
 -- A copy, whose names are counted.
-module _ {s argument m : List ℕ} {at left end n k to : ℕ} {q : Quest} {a : Counted} (c : Counts s (at + 1) (left - 1) m end k a) where
-  pub copy_limit : {out : List ℕ} → a ≡ OverLimit → SeekOpens s argument at left m end q n k to out (Ended n 0 0 to) out
+module _ {s argument m : List ℕ} {at left end n k to : ℕ} {q : Quest} {a : Option ℕ} (c : Counts s (at + 1) (left - 1) m end k a) where
+  pub copy_limit : {out : List ℕ} → a ≡ None → SeekOpens s argument at left m end q n k to out (Ended n 0 0 to) out
   copy_limit is = record { opens = copy_over c is (over to n n) }
 
-  pub copy_sought : {m₁ out after : List ℕ} {high next : ℕ} {d r : Sought} → a ≡ Names next
+  pub copy_sought : {m₁ out after : List ℕ} {high next : ℕ} {d r : Sought} → a ≡ Some next
       → SeekTraverses s argument (at + 1) (left - 1) m₁ end q k next to out d after → GivesBack d n r → Within end high m m₁
       → SeekOpens s argument at left m end q n k to out r after
   unfolding opening

@@ -1,4 +1,5 @@
 -- The start state as it is formed, or over a limit ("Steps"; "Judging and its count").
+use Rattle.std.specs.Prelude.{Option, Some, None}
 use mathlib.Core.Path.{◌≡◌, refl, sym, ap, ◌∙◌}
 use mathlib.Core.Bool.{Bool, true, false, ◌||◌, true≢false}
 use mathlib.Core.List.{List, [], ◌∷◌}
@@ -23,36 +24,32 @@ use Rattle.meaning.proofs.Test.{neither}
 use Rattle.buffer.specs.Buffer.{Within}
 use Rattle.message_term.specs.Bound.{encode_bound}
 use Rattle.index_process.specs.Index.{Builds, ShortModel}
-use Rattle.state_record.specs.Record.{encode_records}
-use Rattle.state_record.specs.Room.{fresh_state}
 use Rattle.state_progress.specs.TraversalResult.{Accumulated, going, unless}
 use Rattle.state_progress.specs.Represented.{Represents, RepresentsResult}
 use Rattle.state_head.specs.Traverse.{Ready, Traverses}
 use Rattle.state_head.specs.Settled.{settled_at, settled_to, over_settled}
-use Rattle.state_progress.specs.Progress.{Extends}
+use Rattle.state_progress.specs.Progress.{Begins, Extends}
 use Rattle.state_start.specs.Form.{state_of, Forms, Starts, Finishes}
 use Rattle.state_layout.specs.Layout.{StateAt, over_arrival, ModelIn}
 use Rattle.state_record.specs.declared.state.State.{State}
-use Rattle.state_start.specs.declared.form.Formed.{Formed}
-use Rattle.state_start.specs.declared.form.Formed.TheVariants.{At, OverLimit}
 use Rattle.state_task.specs.declared.task.Task.TheVariants.{Settle}
 use Rattle.state_progress.specs.declared.progress.Progress.{Progress}
 use Rattle.state_head.proofs.Laws.Settling.{settled_threads, settles}
-use Rattle.state_layout.proofs.Laws.Loaded.{news_short}
+use Rattle.state_layout.proofs.Laws.Loaded.{begins_shown, news_short}
 
 -- A traversal that is done: within the limits, with too many names, or over another limit.
 module _ {now : Progress} where
-  pub finish_at : now.going ≡ true → now.names ≤ 128 → Finishes now (At (state_of now))
+  pub finish_at : now.going ≡ true → now.names ≤ 128 → Finishes now (Some (state_of now))
   finish_at on h = record {
     over = λ off. absurd (true≢false (sym on ∙ off));
     many = λ l. absurd (omega arith);
     state = λ _ _. refl;
   }
 
-  pub finish_many : 128 < now.names → Finishes now OverLimit
+  pub finish_many : 128 < now.names → Finishes now None
   finish_many h = record { over = λ _. refl; many = λ _. refl; state = λ _ l. absurd (omega arith) }
 
-  pub finish_over : now.going ≡ false → Finishes now OverLimit
+  pub finish_over : now.going ≡ false → Finishes now None
   finish_over off = record { over = λ _. refl; many = λ _. refl; state = λ on _. absurd (true≢false (sym on ∙ off)) }
 
 pub ruleset finishes = (finish_at, finish_many, finish_over)
@@ -100,23 +97,10 @@ over_start P =
     (any_of (λ t. over_offers t (names P [] 0)) ts))
 
 -- The start state, from what the traversal has come to.
-module _ {s argument m out after : List ℕ} {begin : ℕ} {f : State} {w : Progress} {r : Formed} (fresh : f ≡ fresh_state begin begin 0)
-    (v : Traverses s argument 0 64 m 0 Settle out (record { going = true; names = 0; mark = 0; sent = 0; state = f }) w after)
-    (x : Extends (record { going = true; names = 0; mark = 0; sent = 0; state = f }) w) (n : Finishes w r) where
-  begins : begin + 3964 ≤ length out → Represents s out (record { going = true; names = 0; mark = 0; sent = 0; state = f }) empty
-  unfolding encode_records
-  begins h = rw fresh (record {
-    on = refl;
-    names = refl;
-    threads = refl;
-    nodes = refl;
-    records = record { bytes = refl; size = omega arith };
-    size = omega arith;
-    few = omega arith;
-    light = omega arith;
-    room = h;
-    standing = none;
-  })
+module _ {s argument m out after : List ℕ} {begin : ℕ} {now w : Progress} {r : Option State} (fresh : Begins begin 0 now)
+    (v : Traverses s argument 0 64 m 0 Settle out now w after) (x : Extends now w) (n : Finishes w r) where
+  begins : begin + 3964 ≤ length out → Represents s out now empty
+  begins h = begins_shown now fresh h
 
   ready : (P : Process) → ModelIn s P → ShortModel s → 10750 ≤ length m → argument ≡ 16 ∷ 0 ∷ [] → Ready s argument 0 64 m 0 Settle P (leaf (public 0)) [] empty
   unfolding encode_bound encode_message encode_word normal
@@ -135,13 +119,13 @@ module _ {s argument m out after : List ℕ} {begin : ℕ} {f : State} {w : Prog
   }
 
   begun : w.state.aliases ≡ begin
-  begun = x.aliases ∙ ap (λ (z : State). z.aliases) fresh
+  begun = x.aliases ∙ ap (λ (z : State). z.aliases) fresh.state
 
   -- The traversal went on to the end, and made few enough names.
   stands_formed : (P : Process) → Represents s after w (settled_to P 0 [] empty) → StateAt s after (state_of w) (start P)
   unfolding start encode_bound bound_nodes
   stands_formed P d =
-      let first : w.state.aliases ≡ w.state.start = begun ∙ sym (x.start ∙ ap (λ (z : State). z.start) fresh) in
+      let first : w.state.aliases ≡ w.state.start = begun ∙ sym (x.start ∙ ap (λ (z : State). z.start) fresh.state) in
       record {
         aliases = record {
           stands = rw first (record { bytes = refl; size = omega arith });
@@ -186,6 +170,6 @@ module _ {s argument m out after : List ℕ} {begin : ℕ} {f : State} {w : Prog
   }
 
 -- Nothing below the position is written.
-pub start_bytes : {out after : List ℕ} {begin high : ℕ} {f : State} → Within f.end high out after
-    → f ≡ fresh_state begin begin 0 → Within begin high out after
-start_bytes w e = rw (ap (λ (z : State). z.end) e) at w
+pub start_bytes : {out after : List ℕ} {begin high : ℕ} {now : Progress} → Within now.state.end high out after
+    → Begins begin 0 now → Within begin high out after
+start_bytes w b = rw (ap (λ (z : State). z.end) b.state) at w

@@ -2,10 +2,13 @@
 use mathlib.Core.Path.{◌≡◌, refl, sym, ◌∙◌}
 use mathlib.Core.Bool.{Bool, true, false, true≢false}
 use mathlib.Core.List.{List}
+use mathlib.Core.Logic.{⊎_elim}
 use Prim.Native.Nat.{ℕ, ◌+◌, ◌≤◌, ◌<◌}
 use native.Mathlib.Omega.{arith}
 use borrow.Author.Tests.{lt-ltb, le-ltb}
+use lib.Dec.{leb}
 use lib.ListN.{length}
+use Rattle.std.proofs.lemmas.Bool.Decides.{leb_tells}
 use Rattle.meaning.specs.Bytes.Encoding.{encode_process}
 use Rattle.index_process.specs.Index.{Ends}
 use Rattle.state_task.specs.Machine.{contains}
@@ -40,4 +43,7 @@ module _ {s : List ℕ} {at mark : ℕ} where
         rw (lt-ltb at mark h, lt-ltb (at + length (encode_process P)) mark (omega (arith, l.same P p, p.stands.size)));
   }
 
-pub ruleset marks = (before_it, in_it, behind_it)
+  pub in_its_reach : {r : ℕ} → at < mark → Ends s at r → Contains s at mark (leb mark r)
+  in_its_reach {r} h l = ⊎_elim (λ t. rw t.0 (in_it h l t.1)) (λ t. rw t.0 (behind_it h l t.1)) (leb_tells mark r)
+
+pub ruleset marks = (before_it, in_its_reach)

@@ -1,4 +1,5 @@
 -- The next silent step of two threads ("Steps").
+use Rattle.std.specs.Prelude.{Option, Some, None}
 use Prim.Native.Nat.{ℕ, ◌+◌, ◌≤◌, ◌<◌}
 use native.Mathlib.Omega.{arith}
 use native.Mathlib.Nat.{le_refl}
@@ -24,11 +25,10 @@ use Rattle.step_transition.specs.CopyOffers.{outputs, inputs, channel_of}
 use Rattle.step_transition.specs.CopyMoves.{Roomy}
 use Rattle.step_transition.specs.Step.{actor, step_of}
 use Rattle.step_label.specs.declared.step.Actor.{Actor}
+use Rattle.step_label.specs.declared.step.Step.{Step}
 use Rattle.step_between.specs.Buffered.{Buffered, Answered}
 use Rattle.step_between.specs.Between.{Party, parties_from, senders_from, offered_to, meeting_of, takers_from, sight_of, Ahead, IsAhead, NextSender, Takes}
 use Rattle.step_offer.specs.declared.seek.Sighting.{Sighting}
-use Rattle.step_label.specs.declared.step.Next.{Next}
-use Rattle.step_label.specs.declared.step.Next.TheVariants.{None, Found}
 use Rattle.step_label.specs.declared.step.Label.TheVariants.{Silent}
 use Rattle.step_transition.proofs.Laws.Records.{whole}
 use Rattle.step_transition.proofs.Laws.Threads.{threads_from}
@@ -105,8 +105,8 @@ sender_known {s} {out} {start} {k} {to} x ps ls ts {w} {others} h split short fe
     (every_first (subst (λ us. Every (Known start k to (length s) (ls ++ ts)) us) e all))
 
 -- The answer where a taker is found.
-abbrev found : (sender taker : Actor) → (size : ℕ) → Next
-found sender taker size = Found (record { label = Silent; arity = 0; copy = 0; sender = sender; taker = taker; size = size })
+abbrev found : (sender taker : Actor) → (size : ℕ) → Option Step
+found sender taker size = Some (record { label = Silent; arity = 0; copy = 0; sender = sender; taker = taker; size = size })
 
 -- The takers of a sender.
 abbrev takers_of : (y : ℕ) → Party → List Placed → List Placed → List Party

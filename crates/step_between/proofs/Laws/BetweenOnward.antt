@@ -1,4 +1,5 @@
 -- From one sender of silent steps of two threads to the next ("Steps").
+use Rattle.std.specs.Prelude.{Option, Some, None}
 use Prim.Native.Nat.{ℕ, ◌+◌, ◌-◌, ◌*◌, ◌≤◌, ◌<◌}
 use native.Mathlib.Omega.{arith}
 use mathlib.Core.Path.{◌≡◌, refl, sym, ◌∙◌, ap, subst}
@@ -35,8 +36,6 @@ use Rattle.step_between.specs.Between.{Party, senders_from, takers_from, between
 use Rattle.step_between.specs.Between.{NextMeeting, Betweens}
 use Rattle.step_offer.specs.declared.hand.Handed.{Handed}
 use Rattle.step_offer.specs.declared.seek.Sighting.{Sighting}
-use Rattle.step_label.specs.declared.step.Next.{Next}
-use Rattle.step_label.specs.declared.step.Next.TheVariants.{None, Found}
 use Rattle.step_label.specs.declared.step.Step as code
 use Rattle.step_transition.proofs.Laws.Threads.{threads_kept, threads_from}
 use Rattle.step_between.proofs.Laws.BetweenLists.{Resumes, parties_resumed}
@@ -53,7 +52,8 @@ pub channel_label : {argument : List ℕ} {k long : ℕ} (a : LocatedOffer) → 
     → IsRunOf argument (channel_of a)
 channel_label a sending e = record { same = e; small = rw e sending.sent.channel; normal = sending.sent.normal }
 
-pub pairs : {s : List ℕ} {start to : ℕ} {m : List ℕ} {now : Sighting} {out channel message on said : List ℕ} {h : Handed} {r : Next}
+pub pairs : {s : List ℕ} {start to : ℕ} {m : List ℕ} {now : Sighting} {out channel message on said : List ℕ} {h : Handed}
+    {r : Option code.Step}
     → Hands out now.done.sent h on said → length on ≡ length channel → length said ≡ length message
     → Takes s (take (h.channel - 0) (drop 0 on)) to m (record { at = now.at; mark = now.done.mark; next = now.done.names }) start 0 out
     h.message r
@@ -87,8 +87,9 @@ senders_resumed k x ls ts s =
     parties_resumed (outputs 0) (leaf (public 0)) (λ p. offers_of p.thread k) (offers_increase k) x ls ts s
 
 module _ {s : List ℕ} {start k to : ℕ} {m : List ℕ} {now : Sighting} {out channel message : List ℕ} where
-  pub onward_found : {answer : Next} {step : code.Step} {on said : List ℕ} → Pairs s start to m now out channel message answer on said
-      → answer ≡ Found step → NextMeeting s start k to m now out channel message (Found step) on said
+  pub onward_found : {answer : Option code.Step} {step : code.Step} {on said : List ℕ}
+      → Pairs s start to m now out channel message answer on said
+      → answer ≡ Some step → NextMeeting s start k to m now out channel message (Some step) on said
   unfolding flat_map
   onward_found {answer} {step} {on} {said} v e = record {
     exact = λ x ps ls ts w others threads room long split senders sees.
@@ -96,7 +97,7 @@ module _ {s : List ℕ} {start k to : ℕ} {m : List ℕ} {now : Sighting} {out 
         (subst (λ a. Answered start on said a (takers_from w 0 (focuses ps))) e (v.exact k x ps ls ts w others threads room long split senders sees));
   }
 
-  pub onward_none : {answer : Next} {on₁ said₁ on said m₁ out₁ : List ℕ} {high : ℕ} {r : Next}
+  pub onward_none : {answer : Option code.Step} {on₁ said₁ on said m₁ out₁ : List ℕ} {high : ℕ} {r : Option code.Step}
       → Pairs s start to m now out channel message answer on₁ said₁ → answer ≡ None → Within 0 high m m₁ → Within to (length out) out out₁
       → length on₁ ≡ length channel → length said₁ ≡ length message
       → Betweens s start now.at k to m₁ now.done.mark out₁ on₁ said₁ r on said → NextMeeting s start k to m now out channel message r on said
@@ -156,7 +157,8 @@ module _ {s : List ℕ} {start at k to : ℕ} {m : List ℕ} {x : ℕ} {out mess
           absurd (let z : false ≡ true = sym e ∙ f.complete (sender_ahead x ps ls ts w others r₁ threads split here room.short room.few g h) in
           let o : ◌≡◌ {A = ℕ} 0 1 = cc in omega arith)
 
-  pub between_onward : {m₁ channel on said : List ℕ} {high : ℕ} {r : Next} → b ≡ true → Within 0 high m m₁ → Within to (length out) out out₁
+  pub between_onward : {m₁ channel on said : List ℕ} {high : ℕ} {r : Option code.Step} → b ≡ true → Within 0 high m m₁
+      → Within to (length out) out out₁
       → NextMeeting s start k to m₁ r₁ out₁ channel message r on said → Betweens s start at k to m x out channel message r on said
   unfolding between_from
   between_onward {m₁} {channel} {on} {said} {high} {r} e wm wo o = record {

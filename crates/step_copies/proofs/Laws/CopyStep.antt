@@ -1,4 +1,5 @@
 -- The silent steps of the threads of a state in their copies, one after the other ("Steps").
+use Rattle.std.specs.Prelude.{Option, Some, None}
 use mathlib.Core.Path.{◌≡◌, refl, sym, ◌∙◌, ap}
 use mathlib.Core.Bool.{Bool, true, false, true≢false}
 use mathlib.Core.List.{List, [], ◌∷◌, ◌++◌, append_assoc, append-nil, flat_map}
@@ -21,8 +22,6 @@ use Rattle.step_copy_pair.specs.Meet.{CopyOf, Meets}
 use Rattle.step_transition.specs.Step.{Shown}
 use Rattle.step_transition.specs.CopyMoves.{group_moves, copy_moves, later_focuses, copy_moves_from, Roomy}
 use Rattle.step_copies.specs.CopyStep.{NextInCopies, NoSilent, ShowsCopy, Finds, NextAfterCopies}
-use Rattle.step_label.specs.declared.step.Next.{Next}
-use Rattle.step_label.specs.declared.step.Next.TheVariants as next
 use Rattle.step_label.specs.declared.step.Step.{Step}
 use Rattle.step_transition.proofs.Laws.Records.{records_further}
 use Rattle.step_copies.proofs.Laws.ReplThreads.{few_groups}
@@ -105,7 +104,7 @@ copy_of p pre post w h o place listed mark low high = record {
 
 -- No thread stands there, or nothing is left to count down.
 module _ {s : List ℕ} {at k to : ℕ} {m : List ℕ} {copy arity x y left : ℕ} {out message : List ℕ} where
-  nothing_there : (at + 4 ≤ to → ⊥) → NextInCopies s at k to m copy arity x y left out message next.None message
+  nothing_there : (at + 4 ≤ to → ⊥) → NextInCopies s at k to m copy arity x y left out message None message
   nothing_there f = record {
     first = λ start ls ts h o place zero two l. of start ls ts h;
     later = λ start p pre post w h o place listed mark low high l. absurd (f (long p.thread p.behind h));
@@ -114,17 +113,17 @@ module _ {s : List ℕ} {at k to : ℕ} {m : List ℕ} {copy arity x y left : �
       long : (t : Placed) (ts : List Placed) → Threads s out at k (t ∷ ts) to → at + 4 ≤ to
       long t ts h = omega (arith, record_end t ts h)
 
-      of : (start : ℕ) (ls ts : List Placed) → Threads s out at k ts to → Shown start message next.None (copy_moves k (focuses_from ls ts))
+      of : (start : ℕ) (ls ts : List Placed) → Threads s out at k ts to → Shown start message None (copy_moves k (focuses_from ls ts))
       of start ls [] h = rw (moves_none k ls) refl
       of start ls (t ∷ ts) h = absurd (f (long t ts h))
 
-  pub joins_end : to ≤ at → NextInCopies s at k to m copy arity x y left out message next.None message
+  pub joins_end : to ≤ at → NextInCopies s at k to m copy arity x y left out message None message
   joins_end l = nothing_there (λ h. omega arith)
 
-  pub joins_short : to - at < 4 → NextInCopies s at k to m copy arity x y left out message next.None message
+  pub joins_short : to - at < 4 → NextInCopies s at k to m copy arity x y left out message None message
   joins_short l = nothing_there (λ h. omega arith)
 
-  pub joins_spent : left ≡ 0 → NextInCopies s at k to m copy arity x y left out message next.None message
+  pub joins_spent : left ≡ 0 → NextInCopies s at k to m copy arity x y left out message None message
   joins_spent e = record {
     first = λ start ls ts h o place zero two l. absurd (omega arith);
     later = λ start p pre post w h o place listed mark low high l. absurd (omega arith);
@@ -132,8 +131,8 @@ module _ {s : List ℕ} {at k to : ℕ} {m : List ℕ} {copy arity x y left : �
 
 -- The pairs of the repl thread that is meant, and what comes after it.
 module _ {s : List ℕ} {at k to : ℕ} {m : List ℕ} {copy arity x y left : ℕ} {out message : List ℕ} (far : 4 ≤ to - at) where
-  pub joins_found : {v : Step} {r : Next} {said : List ℕ} → Meets s at k to m copy arity x y out message r said → r ≡ next.Found v
-      → NextInCopies s at k to m copy arity x y left out message (next.Found v) said
+  pub joins_found : {v : Step} {r : Option Step} {said : List ℕ} → Meets s at k to m copy arity x y out message r said → r ≡ Some v
+      → NextInCopies s at k to m copy arity x y left out message (Some v) said
   joins_found {v} {r} {said} met e = record {
     first = λ start ls ts h o place zero two l. of start ls ts h o zero;
     later = λ start p pre post w h o place listed mark low high l.
@@ -143,12 +142,12 @@ module _ {s : List ℕ} {at k to : ℕ} {m : List ℕ} {copy arity x y left : �
   }
     where
       of : (start : ℕ) (ls ts : List Placed) → Threads s out at k ts to → Roomy s out m message k to → copy ≡ 0
-          → Shown start said (next.Found v) (copy_moves k (focuses_from ls ts))
+          → Shown start said (Some v) (copy_moves k (focuses_from ls ts))
       of start ls [] h o zero = absurd (omega (arith, no_threads h))
       of start ls (t ∷ ts) h o zero = absurd (found_or_none (sym e ∙ met.nowhere t (thread_at t ts h o) zero))
 
-  pub joins_passed : {m₁ out₁ said₁ said : List ℕ} {r₁ r : Next} {low high : ℕ} → (left ≡ 0 → ⊥)
-      → Meets s at k to m copy arity x y out message r₁ said₁ → r₁ ≡ next.None → Within low high m m₁ → Within to (length out) out out₁
+  pub joins_passed : {m₁ out₁ said₁ said : List ℕ} {r₁ r : Option Step} {low high : ℕ} → (left ≡ 0 → ⊥)
+      → Meets s at k to m copy arity x y out message r₁ said₁ → r₁ ≡ None → Within low high m m₁ → Within to (length out) out out₁
       → length said₁ ≡ length message → NextAfterCopies s at k to m₁ copy arity (left - 1) out₁ said₁ r said
       → NextInCopies s at k to m copy arity x y left out message r said
   joins_passed {m₁} {out₁} {said₁} {said} {r₁} {r} some met e wm wo same pass = record {
@@ -171,7 +170,8 @@ module _ {s : List ℕ} {at k to : ℕ} {m : List ℕ} {copy arity x y left : �
           (still_roomy wm wo same o) place zero two (omega arith))
 
   -- Where no repl thread is meant, there are none before it.
-  pub joins_first : {said : List ℕ} {r : Next} → copy ≡ 0 → (left ≡ 0 → ⊥) → NextAfterCopies s at k to m 0 2 (left - 1) out message r said
+  pub joins_first : {said : List ℕ} {r : Option Step} → copy ≡ 0 → (left ≡ 0 → ⊥)
+      → NextAfterCopies s at k to m 0 2 (left - 1) out message r said
       → NextInCopies s at k to m copy arity x y left out message r said
   joins_first {said} {r} zero some pass = record {
     first = λ start ls ts h o place z two l. of start ls ts h o place two l;
@@ -188,8 +188,8 @@ module _ {s : List ℕ} {at k to : ℕ} {m : List ℕ} {copy arity x y left : �
 pub ruleset joinings = (joins_end, joins_short, joins_spent, joins_found, joins_first)
 
 -- After one copy come two.
-pub passes_two : {s : List ℕ} {at k to : ℕ} {m : List ℕ} {copy arity left : ℕ} {out message : List ℕ} {r : Next} {said : List ℕ} → arity ≡ 1
-    → NextInCopies s at k to m copy 2 0 0 left out message r said → NextAfterCopies s at k to m copy arity left out message r said
+pub passes_two : {s : List ℕ} {at k to : ℕ} {m : List ℕ} {copy arity left : ℕ} {out message : List ℕ} {r : Option Step} {said : List ℕ}
+    → arity ≡ 1 → NextInCopies s at k to m copy 2 0 0 left out message r said → NextAfterCopies s at k to m copy arity left out message r said
 passes_two {k = k} {r = r} {said = said} one join = record {
   first = λ start p h o place zero two l. absurd (omega arith);
   later = λ start p pre post w h o place listed mark low high l.
@@ -199,7 +199,7 @@ passes_two {k = k} {r = r} {said = said} one join = record {
 }
 
 -- The threads behind the first one, where that one has no silent step.
-behind_shown : {s : List ℕ} {at k to : ℕ} {m out message m₁ out₁ : List ℕ} {r : Next} {said : List ℕ} {low high size : ℕ}
+behind_shown : {s : List ℕ} {at k to : ℕ} {m out message m₁ out₁ : List ℕ} {r : Option Step} {said : List ℕ} {low high size : ℕ}
     → Within low high m m₁ → Within to (length out) out out₁ → size ≡ number_at out (at + 2)
     → NextInCopies s (at + 4 + size) k to m₁ 0 2 0 0 8193 out₁ message r said → (start : ℕ) (p : Focus) → Threads s out at k (p.thread ∷ p.behind) to
     → Roomy s out m message k to → at ≡ record_at start p → Shown start said r (copy_moves k (later_focuses p))
@@ -211,7 +211,8 @@ behind_shown {at = at} {size = size} wm wo z join start p h o place =
     (omega (arith, records_further p.before p.thread)) refl refl (omega arith)
 
 -- It may have none in its copies.
-pub passes_barren : {s : List ℕ} {at k to : ℕ} {m : List ℕ} {left size : ℕ} {out message : List ℕ} {r : Next} {said : List ℕ} {b : Bool}
+pub passes_barren : {s : List ℕ} {at k to : ℕ} {m : List ℕ} {left size : ℕ} {out message : List ℕ} {r : Option Step} {said : List ℕ}
+    {b : Bool}
     → NoSilent s at out b → b ≡ true → size ≡ number_at out (at + 2) → NextInCopies s (at + 4 + size) k to m 0 2 0 0 8193 out message r said
     → NextAfterCopies s at k to m 0 2 left out message r said
 passes_barren {at = at} {k = k} {to = to} {out = out} x is z join = record {
@@ -223,7 +224,8 @@ passes_barren {at = at} {k = k} {to = to} {out = out} x is z join = record {
 }
 
 -- After two copies comes the next repl thread, or the next thread.
-module _ {s : List ℕ} {at k to : ℕ} {m : List ℕ} {copy arity left : ℕ} {out message m₁ out₁ : List ℕ} {found : Progress} {r : Next} {said : List ℕ}
+module _ {s : List ℕ} {at k to : ℕ} {m : List ℕ} {copy arity left : ℕ} {out message m₁ out₁ : List ℕ} {found : Progress} {r : Option Step}
+    {said : List ℕ}
     {low high : ℕ} (two : arity ≡ 1 → ⊥) (v : Finds s at k to m copy out found) (wm : Within low high m m₁) (wo : Within to (length out) out out₁)
   where
     pub passes_thread : {size : ℕ} → size ≡ number_at out (at + 2) → found.going ≡ true

@@ -3,8 +3,11 @@ use mathlib.Core.Path.{◌≡◌, refl, sym, ap, ap₂, ◌∙◌}
 use mathlib.Core.Bool.{Bool, true, false, true≢false}
 use mathlib.Core.List.{List, [], ◌∷◌, ◌++◌, map, flat_map}
 use Prim.Native.Nat.{ℕ, suc, ◌+◌, ◌-◌}
+use mathlib.Core.Logic.{⊎_elim}
 use native.Mathlib.Omega.{arith}
 use lib.Dec.{eqb}
+use borrow.Author.Tests.{eq-eqb}
+use Rattle.std.proofs.lemmas.Bool.Decides.{eqb_tells}
 use Rattle.meaning.specs.Messages.Term.{leaf, private, public}
 use Rattle.meaning.specs.Messages.Normal.{equal}
 use Rattle.meaning.specs.Bytes.Process.{Process, nil, new, act, if, let_in, par, repl}
@@ -107,10 +110,10 @@ module _ {s : List ℕ} {at : ℕ} {out : List ℕ} where
   }
 
   module _ {place last : ℕ} (e : place ≡ number_at out at) where
-    pub no_output : Lasts s place true last → last ≡ 0 → NoSilent s at out true
-    no_output x l = no_meeting true e x l
+    pub no_output : Lasts s place true last → last ≡ 0 → NoSilent s at out (eqb last 0)
+    no_output x l = rw (eq-eqb last 0 l) (no_meeting true e x l)
 
-    pub no_input : Lasts s place false last → last ≡ 0 → NoSilent s at out true
-    no_input x l = no_meeting false e x l
+    pub no_input : Lasts s place false last → NoSilent s at out (eqb last 0)
+    no_input x = ⊎_elim (λ t. rw t.0 (no_meeting false e x t.1)) (λ t. rw t.0 fertile) (eqb_tells last 0)
 
-pub ruleset no_silents = (fertile, no_output, no_input)
+pub ruleset no_silents = (no_output, no_input)

@@ -1,4 +1,5 @@
 -- The next pair of a sender and a taker in the copies of one thread ("Steps").
+use Rattle.std.specs.Prelude.{Option, Some, None}
 use mathlib.Core.Path.{◌≡◌, refl, sym, ◌∙◌}
 use mathlib.Core.Bool.{true, false, true≢false}
 use mathlib.Core.List.{List, [], ◌∷◌, ◌++◌, map-append}
@@ -15,8 +16,6 @@ use Rattle.step_transition.specs.Step.{Shown}
 use Rattle.step_copy_pair.specs.Meet.{ShowsFirst, CopyOf, NextCopySender, Pairs, NextPair, Meets}
 use Rattle.step_transition.specs.CopyOffers.{pairs_of, pairs_from, senders, moved}
 use Rattle.step_label.specs.declared.step.Step as code
-use Rattle.step_label.specs.declared.step.Next.{Next}
-use Rattle.step_label.specs.declared.step.Next.TheVariants as next
 use Rattle.step_transition.proofs.Laws.Threads.{thread_kept}
 use Rattle.step_copy_pair.proofs.Laws.Senders.{sender_next}
 use Rattle.step_copy_pair.proofs.Laws.Takers.{mark_inside}
@@ -43,16 +42,18 @@ copy_kept p w d wm wo = record {
 }
 
 module _ (s : List ℕ) (at k to : ℕ) (m : List ℕ) (copy arity : ℕ) (now : Progress) (y : ℕ) (out message : List ℕ) where
-  pub onward_found : {b : Next} {t : code.Step} {said : List ℕ} → Pairs s at k to m copy arity now y out message b said → b ≡ next.Found t
-      → NextPair s at k to m copy arity now y out message (next.Found t) said
+  pub onward_found : {b : Option code.Step} {t : code.Step} {said : List ℕ} → Pairs s at k to m copy arity now y out message b said
+      → b ≡ Some t
+      → NextPair s at k to m copy arity now y out message (Some t) said
   onward_found {b} {t} {said} h same = record {
     exact = λ start p w x a others d e f l.
         rw (moved_first p arity w y a others)
         (shown_more start said t (moved p arity w (pairs_of arity w y a)) _ (rw same at (h.exact start p w x a others d e f l)));
   }
 
-  pub onward_next : {b : Next} {said₁ m₁ out₁ said : List ℕ} {r : Next} {high : ℕ} → Pairs s at k to m copy arity now y out message b said₁
-      → b ≡ next.None → Within 0 high m m₁ → Within to (length out) out out₁ → length said₁ ≡ length message
+  pub onward_next : {b : Option code.Step} {said₁ m₁ out₁ said : List ℕ} {r : Option code.Step} {high : ℕ}
+      → Pairs s at k to m copy arity now y out message b said₁
+      → b ≡ None → Within 0 high m m₁ → Within to (length out) out out₁ → length said₁ ≡ length message
       → Meets s at k to m₁ copy arity now.mark 0 out₁ said₁ r said → NextPair s at k to m copy arity now y out message r said
   onward_next {said₁ = said₁} h same wm wo n later = record {
     exact = λ start p w x a others d e f l.
@@ -67,7 +68,7 @@ pub ruleset onwards = (onward_found, onward_next)
 module _ (s : List ℕ) (at k to : ℕ) (m : List ℕ) (copy arity x y : ℕ) (out message : List ℕ) {r₁ : Progress} {out₁ : List ℕ}
     (sends : NextCopySender s at k to m copy x out r₁ out₁) where
   -- No sender stands there.
-  pub meet_none : r₁.going ≡ true → Meets s at k to m copy arity x y out message next.None message
+  pub meet_none : r₁.going ≡ true → Meets s at k to m copy arity x y out message None message
   unfolding pairs_from
   meet_none o = record {
     nowhere = λ t h e. refl;
@@ -75,7 +76,7 @@ module _ (s : List ℕ) (at k to : ℕ) (m : List ℕ) (copy arity x y : ℕ) (o
   }
     where
       of : (start : ℕ) (p : Focus) (w : Opened) (offers : List LocatedOffer) → ShowsFirst out₁ r₁ offers
-          → Shown start message next.None (moved p arity w (pairs_from arity w y offers))
+          → Shown start message None (moved p arity w (pairs_from arity w y offers))
       of start p w [] h = refl
       of start p w (a ∷ others) h = absurd (true≢false (sym o ∙ h.off))
 
@@ -89,7 +90,7 @@ module _ (s : List ℕ) (at k to : ℕ) (m : List ℕ) (copy arity x y : ℕ) (o
         of [] e h = absurd (true≢false (sym h ∙ o))
         of (a ∷ others) e h = (a, others, e, h)
 
-    pub meet_low : r₁.mark ≤ x → Meets s at k to m copy arity x y out message next.None message
+    pub meet_low : r₁.mark ≤ x → Meets s at k to m copy arity x y out message None message
     meet_low l = record {
       nowhere = λ t h e. refl;
       exact = λ start p w d n.
@@ -97,7 +98,7 @@ module _ (s : List ℕ) (at k to : ℕ) (m : List ℕ) (copy arity x y : ℕ) (o
           absurd (omega (arith, f.mark, (sender_next w x a others e).0));
     }
 
-    pub meet_high : length s < r₁.mark → Meets s at k to m copy arity x y out message next.None message
+    pub meet_high : length s < r₁.mark → Meets s at k to m copy arity x y out message None message
     meet_high l = record {
       nowhere = λ t h e. refl;
       exact = λ start p w d n.
@@ -105,7 +106,7 @@ module _ (s : List ℕ) (at k to : ℕ) (m : List ℕ) (copy arity x y : ℕ) (o
           absurd (omega (arith, f.mark, mark_inside p w x a others d e));
     }
 
-    pub meet_on : {m₁ said : List ℕ} {r : Next} {high : ℕ} → Within 0 high m m₁ → Within to (length out) out out₁
+    pub meet_on : {m₁ said : List ℕ} {r : Option code.Step} {high : ℕ} → Within 0 high m m₁ → Within to (length out) out out₁
         → NextPair s at k to m₁ copy arity r₁ y out₁ message r said → Meets s at k to m copy arity x y out message r said
     meet_on wm wo later = record {
       nowhere = λ t h e. absurd (true≢false (sym (sends.nowhere t h e) ∙ o));

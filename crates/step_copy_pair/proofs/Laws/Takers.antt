@@ -1,4 +1,5 @@
 -- The first taker of what a sender sends, in the copies of one thread ("Steps").
+use Rattle.std.specs.Prelude.{Option, Some, None}
 use mathlib.Core.Path.{◌≡◌, refl, sym, ◌∙◌, ap}
 use mathlib.Core.Bool.{true, false, true≢false}
 use mathlib.Core.List.{List, [], ◌∷◌, map}
@@ -34,8 +35,6 @@ use Rattle.step_transition.specs.CopyOffers.{pairs_of, senders, copy_step_with, 
 use Rattle.step_copy_pair.specs.Meet.{CopyOf, Pairs, PairsIn, copy_at}
 use Rattle.step_offer.specs.declared.hand.Handed.{Handed}
 use Rattle.step_label.specs.declared.step.Step as code
-use Rattle.step_label.specs.declared.step.Next.{Next}
-use Rattle.step_label.specs.declared.step.Next.TheVariants as next
 use Rattle.step_label.specs.declared.step.Label.TheVariants.{Silent}
 use Rattle.step_transition.proofs.Laws.Threads.{process_ends, process_inside}
 use Rattle.step_transition.proofs.Laws.CopyMoves.{mode_of}
@@ -90,7 +89,7 @@ takers_from arity w y a = filter (wanted (inputs y (excluded_by arity a)) (chann
 -- No taker, so no pair; or the pair with the first taker.
 none_shown : (start : ℕ) (said : List ℕ) (p : Focus) (arity : ℕ) (w : Opened) (a : LocatedOffer) (out : List ℕ) (r : Progress) (bs : List LocatedOffer)
     → ShowsFirst out r bs → r.going ≡ true
-    → Shown start said next.None (moved p arity w (map (λ b. record { sender = a; taker = b }) bs))
+    → Shown start said None (moved p arity w (map (λ b. record { sender = a; taker = b }) bs))
 none_shown start said p arity w a out r [] h e = refl
 none_shown start said p arity w a out r (b ∷ bs) h e = absurd (true≢false (sym e ∙ h.off))
 
@@ -100,9 +99,9 @@ first_shown : (start : ℕ) (said : List ℕ) (p : Focus) (arity : ℕ) (w : Ope
     → (t ≡ step_of start (inside p (copy_step_with arity w (record { sender = a; taker = b }))))
     × Stands said 0 (run_of (inside p (copy_step_with arity w (record { sender = a; taker = b }))))
     (length (run_of (inside p (copy_step_with arity w (record { sender = a; taker = b }))))))
-    → Shown start said (next.Found t) (moved p arity w (map (λ b. record { sender = a; taker = b }) bs))
+    → Shown start said (Some t) (moved p arity w (map (λ b. record { sender = a; taker = b }) bs))
 first_shown start said p arity w a out r [] t h e f = absurd (true≢false (sym h ∙ e))
-first_shown start said p arity w a out r (b ∷ bs) t h e f = let (same, stands) = f b h in (ap next.Found same, stands)
+first_shown start said p arity w a out r (b ∷ bs) t h e f = let (same, stands) = f b h in (ap Some same, stands)
 
 module _ (s : List ℕ) (at k to : ℕ) (m : List ℕ) (copy arity : ℕ) (now : Progress) (y : ℕ) (out : List ℕ) {said : List ℕ} where
   -- The messages of the sender are handed over, and a taker is looked for.
@@ -157,7 +156,7 @@ module _ (s : List ℕ) (at k to : ℕ) (m : List ℕ) (copy arity : ℕ) (now :
           )
 
     module _ {channel message : List ℕ} (l : length channel₁ ≡ length channel) (n : length said ≡ length message) where
-      pub pair_none : r₁.going ≡ true → PairsIn channel s at k to m copy arity now y out message next.None said
+      pub pair_none : r₁.going ≡ true → PairsIn channel s at k to m copy arity now y out message None said
       unfolding pairs_of
       pair_none o = record {
         exact = λ room. record {
@@ -167,7 +166,7 @@ module _ (s : List ℕ) (at k to : ℕ) (m : List ℕ) (copy arity : ℕ) (now :
         };
       }
 
-      pub pair_found : r₁.going ≡ false → PairsIn channel s at k to m copy arity now y out message (next.Found found) said
+      pub pair_found : r₁.going ≡ false → PairsIn channel s at k to m copy arity now y out message (Some found) said
       unfolding pairs_of
       pair_found o = record {
         exact = λ room. record {
@@ -181,7 +180,8 @@ module _ (s : List ℕ) (at k to : ℕ) (m : List ℕ) (copy arity : ℕ) (now :
 pub ruleset takings = (pair_none, pair_found)
 
 -- There is room for the channel.
-pub pairs_in : (channel s : List ℕ) {at k to : ℕ} {m : List ℕ} {copy arity : ℕ} {now : Progress} {y : ℕ} {out message said : List ℕ} {r : Next}
+pub pairs_in : (channel s : List ℕ) {at k to : ℕ} {m : List ℕ} {copy arity : ℕ} {now : Progress} {y : ℕ} {out message said : List ℕ}
+    {r : Option code.Step}
     → PairsIn channel s at k to m copy arity now y out message r said → 510 ≤ length channel
     → Pairs s at k to m copy arity now y out message r said
 pairs_in channel s h l = h.exact l

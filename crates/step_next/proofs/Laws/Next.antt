@@ -1,7 +1,9 @@
 -- The next step of whichever label ("Steps").
+use Rattle.std.specs.Prelude.{Option}
 use mathlib.Core.Path.{◌≡◌, refl, sym, subst}
 use mathlib.Core.Bool.{Bool, true, false}
 use mathlib.Core.List.{List}
+use mathlib.Core.Logic.{◌⊎◌, inl, inr}
 use Prim.Native.Nat.{ℕ}
 use native.Mathlib.Omega.{arith}
 use lib.ListN.{length}
@@ -23,7 +25,6 @@ use Rattle.step_next.specs.Next.{Nexts, NextSilent}
 use Rattle.step_label.specs.declared.step.Step as step
 use Rattle.step_label.specs.declared.step.Label.{Label}
 use Rattle.step_label.specs.declared.step.Label.TheVariants.{Output, Input, Silent}
-use Rattle.step_label.specs.declared.step.Next.{Next}
 use Rattle.step_located.proofs.Laws.Copies.{split_at}
 use Rattle.step_transition.proofs.Laws.Start.{within_threads}
 use Rattle.step_visible.proofs.Laws.LabelledBehind.{Offered, moves_offered}
@@ -31,7 +32,7 @@ use Rattle.step_between.proofs.Laws.Buffered.{Unshared, answered_unshared}
 use Rattle.step_visible.proofs.Laws.LabelledMoves.{label_of, Asked, first_shown, later_shown}
 
 -- Outputs and inputs.
-module _ {s channel : List ℕ} {st : code.State} {m out message : List ℕ} {r : Next} {said : List ℕ} where
+module _ {s channel : List ℕ} {st : code.State} {m out message : List ℕ} {r : Option step.Step} {said : List ℕ} where
   labelled_shown : (sending : Bool) (S : State) (x : Message) (h : WithinLimits s out st S) → IsRunOf channel x → Searching s st m out message
       → {from : step.Step} {others : List Move} → NextLabelled s channel st from m out message r said → from.label ≡ label_of sending
       → Behind (label_of sending) st.start (labelled_moves sending x S.next h.at.placed) from others
@@ -71,7 +72,7 @@ offered_unshared sending x (inside p j) o = absurd o
 offered_unshared sending x (between p q v) o = absurd o
 
 -- What the function promises.
-module _ {s channel : List ℕ} {st : code.State} {from : step.Step} {m out message : List ℕ} {r : Next} {said : List ℕ} where
+module _ {s channel : List ℕ} {st : code.State} {from : step.Step} {m out message : List ℕ} {r : Option step.Step} {said : List ℕ} where
   labelled_next : (held : List ℕ) (sending : Bool) (S : State) (x : Message) (h : WithinLimits s out st S) → IsRunOf channel x → Searching s st m out message
       → {others : List Move} → NextLabelled s channel st from m out message r said → from.label ≡ label_of sending
       → Behind (label_of sending) st.start (labelled_moves sending x S.next h.at.placed) from others
@@ -81,7 +82,7 @@ module _ {s channel : List ℕ} {st : code.State} {from : step.Step} {m out mess
       (every_map (offered_unshared sending x) (every_behind b (moves_offered sending x h.judged)))
       (labelled_shown sending S x h l o n e b)
 
-  pub next_output : {held : List ℕ} → from.label ≡ Output → NextLabelled s channel st from m out message r said
+  next_output : {held : List ℕ} → from.label ≡ Output → NextLabelled s channel st from m out message r said
       → Nexts s channel st from m out held message r held said
   next_output {held} e n = record {
     exact = λ S x h l o long {others} b.
@@ -89,13 +90,18 @@ module _ {s channel : List ℕ} {st : code.State} {from : step.Step} {m out mess
         (subst (λ (k : Label). Behind k st.start (moves_of k x S.next h.at.placed) from others) e b.behind);
   }
 
-  pub next_input : {held : List ℕ} → from.label ≡ Input → NextLabelled s channel st from m out message r said
+  next_input : {held : List ℕ} → from.label ≡ Input → NextLabelled s channel st from m out message r said
       → Nexts s channel st from m out held message r held said
   next_input {held} e n = record {
     exact = λ S x h l o long {others} b.
         labelled_next held false S x h l o n e
         (subst (λ (k : Label). Behind k st.start (moves_of k x S.next h.at.placed) from others) e b.behind);
   }
+
+  pub next_labelled : {held : List ℕ} → (from.label ≡ Output) ⊎ (from.label ≡ Input) → NextLabelled s channel st from m out message r said
+      → Nexts s channel st from m out held message r held said
+  next_labelled (inl e) n = next_output e n
+  next_labelled (inr e) n = next_input e n
 
   pub next_silent : {held on : List ℕ} → from.label ≡ Silent → NextSilent s st from m out held message r on said
       → Nexts s channel st from m out held message r on said
@@ -117,4 +123,4 @@ begins_before l start e = rw e
 pub said_long : {low high : ℕ} {a b : List ℕ} → Within low high a b → length b ≡ length a
 said_long w = w.long
 
-pub ruleset nexts = (next_output, next_input, next_silent)
+pub ruleset nexts = (next_labelled, next_silent)

@@ -1,4 +1,5 @@
 -- The next silent step among all of them ("Steps").
+use Rattle.std.specs.Prelude.{Option, Some, None}
 use mathlib.Core.Path.{◌≡◌, refl, sym, subst, ◌∙◌}
 use mathlib.Core.Logic.{inl, inr}
 use mathlib.Core.List.{List, [], ◌∷◌, ◌++◌, flat_map}
@@ -26,8 +27,6 @@ use Rattle.step_transition.specs.Behind.{Behind, all, later}
 use Rattle.step_next.specs.Next.{place_of, NextFrom}
 use Rattle.step_label.specs.declared.step.Step as step
 use Rattle.step_label.specs.declared.step.Label.TheVariants.{Silent}
-use Rattle.step_label.specs.declared.step.Next.{Next}
-use Rattle.step_label.specs.declared.step.Next.TheVariants as next
 use Rattle.step_transition.proofs.Laws.Threads.{threads_kept, threads_from}
 use Rattle.step_transition.proofs.Laws.CopyMoves.{copy_moves_all, silent_moves_parts}
 use Rattle.step_transition.proofs.Laws.SplitLists.{split_parts}
@@ -87,18 +86,18 @@ unfolding place_of
 place_mark n = omega arith
 
 -- The search in copies behind a step.
-abbrev JoinsFrom : (s : List ℕ) → code.State → (m out message : List ℕ) → Next → (said : List ℕ) → step.Step → Type 0
+abbrev JoinsFrom : (s : List ℕ) → code.State → (m out message : List ℕ) → Option step.Step → (said : List ℕ) → step.Step → Type 0
 JoinsFrom s st m out message r said v =
     NextInCopies s v.sender.at st.names st.end m v.copy v.arity (place_of v.sender.mark) v.taker.mark 8193 out message r said
 
 -- What is left in copies, before all steps of two threads.
-record Copied (st : code.State) (r : Next) (said : List ℕ) (ps : List Placed) (others : List Move) : Type 0 where
+record Copied (st : code.State) (r : Option step.Step) (said : List ℕ) (ps : List Placed) (others : List Move) : Type 0 where
   left : List Move
   alone : Every Single left
   shown : Shown st.start said r left
   rest : others ≡ left ++ meetings_all st.names ps
 
-module _ (s : List ℕ) (st : code.State) (m out message : List ℕ) (r : Next) (said : List ℕ) (ps : List Placed)
+module _ (s : List ℕ) (st : code.State) (m out message : List ℕ) (r : Option step.Step) (said : List ℕ) (ps : List Placed)
     (threads : Threads s out st.start st.names ps st.end) (roomy : Roomy s out m message st.names st.end) where
   after_one : (w : Move) (others : List Move) → Stand st.names ps w others → ((step_of st.start w).arity ≡ 0 → ⊥)
       → JoinsFrom s st m out message r said (step_of st.start w) → Copied st r said ps others
@@ -128,24 +127,24 @@ module _ (s : List ℕ) (st : code.State) (m out message : List ℕ) (r : Next) 
 
 -- What the functions promise.
 module _ {s : List ℕ} {st : code.State} {from : step.Step} {m out channel message : List ℕ} where
-  module _ {r₁ : Next} {said₁ : List ℕ} {x : ℕ} (p : x ≡ place_of from.sender.mark)
+  module _ {r₁ : Option step.Step} {said₁ : List ℕ} {x : ℕ} (p : x ≡ place_of from.sender.mark)
       (b' : NextInCopies s from.sender.at st.names st.end m from.copy from.arity x from.taker.mark 8193 out message r₁ said₁) where
     left_over : {ps : List Placed} {others : List Move} → (from.arity ≡ 0 → ⊥) → Threads s out st.start st.names ps st.end
         → Roomy s out m message st.names st.end → Resuming Silent st.start (silent_moves st.names ps) channel message from others
         → Copied st r₁ said₁ ps others
     left_over {ps} here threads roomy on = one_behind s st m out message r₁ said₁ ps threads roomy on.behind here (rw p at b')
 
-    pub next_found : {v : step.Step} → r₁ ≡ next.Found v
-        → NextFrom (λ v. v.arity ≡ 0 → ⊥) s st from m out channel message (next.Found v) channel said₁
+    pub next_found : {v : step.Step} → r₁ ≡ Some v
+        → NextFrom (λ v. v.arity ≡ 0 → ⊥) s st from m out channel message (Some v) channel said₁
     next_found {v} e = record {
       exact = λ ps here threads roomy long on.
           let c = left_over here threads roomy on in
-          let shown : Shown st.start said₁ (next.Found v) c.left = subst (λ (n : Next). Shown st.start said₁ n c.left) e c.shown in
+          let shown : Shown st.start said₁ (Some v) c.left = subst (λ (n : Option step.Step). Shown st.start said₁ n c.left) e c.shown in
           rw c.rest (answered_more st.start channel said₁ v c.left (meetings_all st.names ps)
-          (answered_unshared st.start channel said₁ (next.Found v) (every_map single_unshared c.alone) shown));
+          (answered_unshared st.start channel said₁ (Some v) (every_map single_unshared c.alone) shown));
     }
 
-    pub next_two : {m₁ out₁ on said : List ℕ} {r : Next} {low high : ℕ} → r₁ ≡ next.None → Within low high m m₁
+    pub next_two : {m₁ out₁ on said : List ℕ} {r : Option step.Step} {low high : ℕ} → r₁ ≡ None → Within low high m m₁
         → Within st.end (length out) out out₁ → length said₁ ≡ length message
         → Betweens s st.start st.start st.names st.end m₁ 0 out₁ channel said₁ r on said
         → NextFrom (λ v. v.arity ≡ 0 → ⊥) s st from m out channel message r on said
@@ -155,16 +154,18 @@ module _ {s : List ℕ} {st : code.State} {from : step.Step} {m out channel mess
           let c = left_over here threads roomy resuming in
           let start : st.start ≡ st.start + 0 = omega arith in
           let none : c.left ≡ [] =
-          shown_none st.start said₁ c.left (subst (λ (n : Next). Shown st.start said₁ n c.left) e c.shown) in
+          shown_none st.start said₁ c.left (subst (λ (n : Option step.Step). Shown st.start said₁ n c.left) e c.shown) in
           let shown = two.exact ps [] ps (threads_kept ps wo (omega arith) threads) (still_roomy wm wo l roomy) long refl start in
           rw (c.rest, none, between_all st.names ps) shown;
     }
 
-  pub next_first : {r : Next} {on said : List ℕ} → from.arity ≡ 0 → NextFrom (λ v. v.arity ≡ 0) s st from m out channel message r on said
+  pub next_first : {r : Option step.Step} {on said : List ℕ} → from.arity ≡ 0
+      → NextFrom (λ v. v.arity ≡ 0) s st from m out channel message r on said
       → NextFrom (λ v. Unit {0}) s st from m out channel message r on said
   next_first e f = record { exact = λ ps here. f.exact ps e }
 
-  pub next_second : {r : Next} {on said : List ℕ} → (from.arity ≡ 0 → ⊥) → NextFrom (λ v. v.arity ≡ 0 → ⊥) s st from m out channel message r on said
+  pub next_second : {r : Option step.Step} {on said : List ℕ} → (from.arity ≡ 0 → ⊥)
+      → NextFrom (λ v. v.arity ≡ 0 → ⊥) s st from m out channel message r on said
       → NextFrom (λ v. Unit {0}) s st from m out channel message r on said
   next_second e f = record { exact = λ ps here. f.exact ps e }
 

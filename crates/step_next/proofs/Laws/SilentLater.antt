@@ -1,4 +1,5 @@
 -- The next silent step of two threads behind one, whose sender's channel and message are at hand ("Steps").
+use Rattle.std.specs.Prelude.{Option, Some, None}
 use mathlib.Core.Path.{◌≡◌, refl, ap, subst}
 use mathlib.Core.List.{List, ◌∷◌}
 use Prim.Native.Nat.{ℕ, ◌+◌, ◌-◌, ◌*◌}
@@ -21,8 +22,6 @@ use Rattle.step_transition.specs.Step.{actor, step_of, run_of}
 use Rattle.step_transition.specs.Behind.{Behind, all, later}
 use Rattle.step_label.specs.declared.step.Step as step
 use Rattle.step_label.specs.declared.step.Label.TheVariants.{Silent}
-use Rattle.step_label.specs.declared.step.Next.{Next}
-use Rattle.step_label.specs.declared.step.Next.TheVariants as next
 use Rattle.step_transition.proofs.Laws.Threads.{threads_kept}
 use Rattle.step_transition.proofs.Laws.Roomy.{still_roomy}
 use Rattle.step_between.specs.Buffered.{channel_run, Buffered, Answered, BufferedBefore, Resuming}
@@ -36,7 +35,8 @@ use Rattle.step_between.proofs.Laws.BetweenMoves.{between_resumed}
 use Rattle.step_next.proofs.Laws.Silent.{Stand, in-copies, of_two, stand}
 
 -- A step of two threads, what comes after it, and the answer among the takers of its sender that are left.
-record SenderResumed (st : code.State) (from : step.Step) (channel message : List ℕ) (r : Next) (ps : List Placed) (others : List Move) : Type 0 where
+record SenderResumed (st : code.State) (from : step.Step) (channel message : List ℕ) (r : Option step.Step) (ps : List Placed)
+    (others : List Move) : Type 0 where
   sender : Focus
   taker : Focus
   pair : Pair
@@ -46,11 +46,11 @@ record SenderResumed (st : code.State) (from : step.Step) (channel message : Lis
       (takers_from (party sender pair.sender) (pair.taker.place + 1) (taker ∷ later_focuses taker))
 
 -- The search for a taker behind that of a step, n being the nodes of its channel.
-abbrev TakesFrom : (s : List ℕ) → code.State → (m out channel : List ℕ) → ℕ → Next → step.Step → Type 0
+abbrev TakesFrom : (s : List ℕ) → code.State → (m out channel : List ℕ) → ℕ → Option step.Step → step.Step → Type 0
 TakesFrom s st m out channel n r v =
     Takes s (take (2 * n - 0) (drop 0 channel)) st.end m v.sender v.taker.at v.taker.mark out v.size r
 
-module _ {s : List ℕ} {st : code.State} {m out channel message : List ℕ} {n : ℕ} {r₁ : Next} (size : SizeOf channel n) where
+module _ {s : List ℕ} {st : code.State} {m out channel message : List ℕ} {n : ℕ} {r₁ : Option step.Step} (size : SizeOf channel n) where
   -- The run of the channel is as long as its nodes say.
   held_two : (ps : List Placed) (others : List Move) (p q : Focus) (v : Pair) → Threads s out st.start st.names ps st.end
       → Roomy s out m message st.names st.end → Resumed st.names ps others p q v → Buffered channel message (between p q v)
@@ -92,18 +92,18 @@ module _ {s : List ℕ} {st : code.State} {m out channel message : List ℕ} {n 
 
   -- A further taker of the sender; or the senders after it.
   module _ {from : step.Step} (takes : TakesFrom s st m out channel n r₁ from) where
-    pub later_found : {v : step.Step} → r₁ ≡ next.Found v → NextFrom (λ v. v.arity ≡ 0) s st from m out channel message (next.Found v) channel message
+    pub later_found : {v : step.Step} → r₁ ≡ Some v → NextFrom (λ v. v.arity ≡ 0) s st from m out channel message (Some v) channel message
     later_found {v} e = record {
       exact = λ ps here threads roomy long on.
           let h = held ps here threads roomy on takes in
           let mine = takers_from (party h.sender h.pair.sender) (h.pair.taker.place + 1) (h.taker ∷ later_focuses h.taker) in
           let theirs = between_from (focuses ps) st.names (h.sender ∷ later_focuses h.sender) (h.pair.sender.place + 1) in
-          subst (λ us. Answered st.start channel message (next.Found v) us) h.resumed.left
+          subst (λ us. Answered st.start channel message (Some v) us) h.resumed.left
           (answered_more st.start channel message v mine theirs
           (subst (λ a. Answered st.start channel message a mine) e h.answered));
     }
 
-    pub later_next : {m₁ out₁ on said : List ℕ} {r : Next} {low high : ℕ} → r₁ ≡ next.None → Within low high m m₁
+    pub later_next : {m₁ out₁ on said : List ℕ} {r : Option step.Step} {low high : ℕ} → r₁ ≡ None → Within low high m m₁
         → Within st.end (length out) out out₁
         → Betweens s st.start from.sender.at st.names st.end m₁ from.sender.mark out₁ channel message r on said
         → NextFrom (λ v. v.arity ≡ 0) s st from m out channel message r on said

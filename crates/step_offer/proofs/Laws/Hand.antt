@@ -1,6 +1,7 @@
 -- Messages that are copied to where they stay ("Steps").
-use mathlib.Core.Path.{◌≡◌, sym, subst}
+use mathlib.Core.Path.{◌≡◌, ap, subst, ◌∙◌}
 use mathlib.Core.List.{List, [], ◌∷◌}
+use mathlib.Core.Logic.{◌⊎◌, inl, inr}
 use Prim.Native.Nat.{ℕ, ◌+◌, ◌-◌, ◌*◌, ◌<◌}
 use native.Mathlib.Omega.{arith}
 use lib.ListN.{length, take, drop}
@@ -25,39 +26,29 @@ module _ (out : List ℕ) {from v : ℕ} (z : SizeOf (take (length out - from) (
   size_of x p =
       let n = z.same x (lent p (stands_ends p (omega (arith, run_length x, some_node x)))) in omega (arith, n, run_length x)
 
-  pub copies_long : {to : List ℕ} → length to < 2 * v → Copies out from 0 to
-  copies_long h = record { exact = λ x p k. absurd (omega (arith, size_of x p)) }
-
-  pub copies_made : {to : List ℕ} → Fetched (take (from + 2 * v - from) (drop from out)) to → Copies out from (2 * v) to
-  copies_made w = record {
+  pub copies_sized : {r : ℕ} {to : List ℕ} → CopiesTo out from (from + 2 * v) r to → Copies out from r to
+  copies_sized c = record {
     exact = λ x {end} p k.
-        let n = size_of x p in
-        let ends : end ≡ from + 2 * v = omega (arith, p.size) in
-        let same : take (from + 2 * v - from) (drop from out) ≡ encode_message x = rw ends at (part p) in
-        rw (same, sym n) at w.there;
+        let ends : end ≡ from + 2 * v = omega (arith, p.size, size_of x p) in
+        c.exact x (subst (λ (i : ℕ). Stands out from (encode_message x) i) ends p) k;
   }
 
-pub ruleset copyings = (copies_none, copies_long, copies_made)
+pub ruleset copyings = (copies_none, copies_sized)
 
 -- One that ends at a position.
 module _ {out to : List ℕ} {from end : ℕ} where
-  pub until_before : end < from → CopiesTo out from end 0 to
-  until_before h = record { exact = λ x p k. absurd (omega (arith, p.size)) }
+  pub until_outside : (end < from) ⊎ (length out < end) → CopiesTo out from end 0 to
+  until_outside (inl h) = record { exact = λ x p k. absurd (omega (arith, p.size)) }
+  until_outside (inr h) = record { exact = λ x p k. absurd (omega (arith, stands_ends p (omega (arith, run_length x, some_node x)))) }
 
-  pub until_beyond : length out < end → CopiesTo out from end 0 to
-  until_beyond h = record { exact = λ x p k. absurd (omega (arith, stands_ends p (omega (arith, run_length x, some_node x)))) }
+  module _ {run : List ℕ} (is : run ≡ take (end - from) (drop from out)) where
+    pub until_long : length to < length run → CopiesTo out from end 0 to
+    until_long h = record { exact = λ x p k. absurd (omega (arith, ap length (is ∙ part p))) }
 
-  pub until_long : length to < end - from → CopiesTo out from end 0 to
-  until_long h = record { exact = λ x p k. absurd (omega (arith, p.size)) }
+    pub until_made : Fetched run to → CopiesTo out from end (length run) to
+    until_made w = record { exact = λ x p k. let same : run ≡ encode_message x = is ∙ part p in rw same (rw same at w.there) }
 
-  pub until_made : {size : ℕ} → size ≡ end - from → Fetched (take (end - from) (drop from out)) to → CopiesTo out from end size to
-  until_made {size} e w = record {
-    exact = λ x p k.
-        let n : length (encode_message x) ≡ size = omega (arith, p.size, e) in
-        rw (part p, n) at w.there;
-  }
-
-pub ruleset untils = (until_before, until_beyond, until_long, until_made)
+pub ruleset untils = (until_outside, until_long, until_made)
 
 -- The second one stands behind the first.
 pub handed : {out : List ℕ} {from a b : ℕ} (channel message : List ℕ) → Copies out from a channel → Copies out (from + a) b message

@@ -61,7 +61,7 @@ pub looks_traversed : {s argument m m₁ out after : List ℕ} {at to n : ℕ} {
     → Looks s argument at to m q n out r after
 looks_traversed {to = to} {n} {q} d w v e = record {
   exact = λ t x p j kn b i l1 l2 l3 l4.
-      let begins : Begins to n (begun_at to n) = record { on = refl; next = refl; state = refl } in
+      let begins : Begins to n (begun_at to n) = record { on = refl; next = refl; mark = refl; state = refl } in
       let z = (thread_traversed d w v.traverses).exact t x (nothing_yet n) p i l1 l2 (l4 also l4 also none) tt (begins_shown (begun_at to n) begins l3) in
       rw e (rw (thread_sought t q x n j kn b) at z);
 }

@@ -4,6 +4,7 @@ use mathlib.Core.Bool.{Bool, true, false, not, true≢false}
 use mathlib.Core.List.{List, [], ◌∷◌}
 use Prim.Native.Nat.{ℕ, ◌+◌, ◌-◌, ◌≤◌, ◌<◌}
 use native.Mathlib.Omega.{arith}
+use lib.Dec.{eqb}
 use borrow.Author.Tests.{eq-eqb, ne_eqb}
 use lib.ListN.{length}
 use Rattle.meaning.specs.Messages.Term.{Message}
@@ -23,11 +24,11 @@ use Rattle.index_process.specs.Index.{ShortModel}
 
 -- The record at the position skip, and that of a thread without such an offer, or of which nothing is said.
 module _ {s argument out : List ℕ} {at skip : ℕ} {q : Quest} where
-  pub skips_own : at ≡ skip → Skips s argument at q skip out true
-  skips_own same = record {
+  pub skips_own : at ≡ skip → Skips s argument at q skip out (eqb at skip)
+  skips_own same = rw (eq-eqb at skip same) (record {
     exact = λ _ t ts x k h b l. among_skipped q x k skip at t ts (eq-eqb at skip same);
     other = λ e. absurd (true≢false e);
-  }
+  })
 
   pub skips_idle : {place : ℕ} {r : Bool} → (at ≡ skip → ⊥) → place ≡ number_at out at → NoOffer s argument place q r → Skips s argument at q skip out r
   skips_idle differs e d = record {

@@ -1,4 +1,5 @@
 -- The next output or input on the channel of a label ("Steps").
+use Rattle.std.specs.Prelude.{Option, Some, None}
 use mathlib.Core.Path.{◌≡◌, refl, sym, ◌∙◌, ap, subst}
 use mathlib.Core.Bool.{Bool, true, false}
 use mathlib.Core.List.{List, [], ◌∷◌}
@@ -34,8 +35,6 @@ use Rattle.step_offer.specs.declared.seek.Sighting.{Sighting}
 use Rattle.step_offer.specs.Hand.{CopiesTo}
 use Rattle.step_label.specs.declared.step.Step.{Step}
 use Rattle.step_label.specs.declared.step.Label.TheVariants.{Output, Input, Silent}
-use Rattle.step_label.specs.declared.step.Next.{Next}
-use Rattle.step_label.specs.declared.step.Next.TheVariants.{Found, None}
 use Rattle.step_transition.proofs.Laws.Allowed.{run_short}
 use Rattle.step_transition.proofs.Laws.Threads.{stands_ends}
 use Rattle.step_visible.proofs.Laws.SeekMoves.{sight_of}
@@ -55,7 +54,7 @@ module _ (out : List ℕ) (at : ℕ) (now : Progress) {message : List ℕ} where
   -- The message stands behind the channel.
   pub handed-over : {n size : ℕ} {after : List ℕ} → SizeOf (take (length out - now.sent) (drop now.sent out)) n
       → CopiesTo out (now.sent + 2 * n) now.state.end size after → length after ≡ length message
-      → HandsOver out at now message (Found (output_step at now size)) after
+      → HandsOver out at now message (Some (output_step at now size)) after
   unfolding encode_messages
   handed-over {n} {size} w c same = record {
     exact = λ x y p l.
@@ -67,7 +66,7 @@ module _ (out : List ℕ) (at : ℕ) (now : Progress) {message : List ℕ} where
         (subst (λ (i : ℕ). Stands out (now.sent + 2 * n) (encode_message y) i) ends (subst (λ (i : ℕ). Stands out i (encode_message y) last) here b))
         (omega arith) in
         let long : size ≡ length (encode_message y) = omega (arith, there.size) in
-        (ap (λ (k : ℕ). Found (output_step at now k)) long, rw long at there);
+        (ap (λ (k : ℕ). Some (output_step at now k)) long, rw long at there);
   }
 
 pub ruleset hands = (handed_beyond, handed-over)
@@ -81,7 +80,7 @@ handed_within {a} {b} e = record {
 
 -- The step of an offer that was seen.
 module _ (start : ℕ) (p : Focus) (a : LocatedOffer) (x : Message) (ws : List Move) where
-  output_shown : {found : Sighting} {after₁ message after : List ℕ} {r : Next} (f : Prefix)
+  output_shown : {found : Sighting} {after₁ message after : List ℕ} {r : Option Step} (f : Prefix)
       → Sees after₁ found (record_at start p) (prefixed a f) → wanted (labelled true) x (prefixed a f) ≡ true
       → Small (prefixed a f) → HandsOver after₁ found.at found.done message r after → 510 ≤ length message
       → Shown start after r (alone p (prefixed a f) ∷ ws)
@@ -94,7 +93,7 @@ module _ (start : ℕ) (p : Focus) (a : LocatedOffer) (x : Message) (ws : List M
 
   input_shown : {found : Sighting} {after₁ : List ℕ} (message : List ℕ) (f : Prefix)
       → Sees after₁ found (record_at start p) (prefixed a f) → wanted (labelled false) x (prefixed a f) ≡ true
-      → Shown start message (Found (input_step found.at found.done)) (alone p (prefixed a f) ∷ ws)
+      → Shown start message (Some (input_step found.at found.done)) (alone p (prefixed a f) ∷ ws)
   unfolding wanted step_of run_of
   input_shown message (output C M) v w = absurd (let z : ◌≡◌ {A = ℕ} 0 1 = cc in omega arith)
   input_shown message (input C) v w = (rw (v.at, v.mark, v.next), record { bytes = refl; size = refl })
@@ -123,8 +122,8 @@ module _ (sending : Bool) (s channel : List ℕ) (st : State) (at from : ℕ) (m
       of x (inside p j ∷ ws) w (o also os) = absurd o
       of x (between p t j ∷ ws) w (o also os) = absurd o
 
-pub output_follows : (s channel : List ℕ) (st : State) (at from : ℕ) (m out message : List ℕ) {q : Quest} {found : Sighting}
-    {out₁ after : List ℕ} {r : Next} → q ≡ labelled_from true from → Seeks s channel at st.end m q st.end st.names out found out₁
+output_follows : (s channel : List ℕ) (st : State) (at from : ℕ) (m out message : List ℕ) {q : Quest} {found : Sighting}
+    {out₁ after : List ℕ} {r : Option Step} → q ≡ labelled_from true from → Seeks s channel at st.end m q st.end st.names out found out₁
     → (found.done.mark ≡ 0 → ⊥) → HandsOver out₁ found.at found.done message r after
     → NextVisible true s channel st at from m out message r after
 output_follows s channel st at from m out message {q} {found} {out₁} {after} {r} e v z h = record {
@@ -140,10 +139,10 @@ output_follows s channel st at from m out message {q} {found} {out₁} {after} {
     of x (inside p j ∷ ws) l w (o also os) = absurd o
     of x (between p t j ∷ ws) l w (o also os) = absurd o
 
-pub input_follows : (s channel : List ℕ) (st : State) (at from : ℕ) (m out message : List ℕ) {q : Quest} {found : Sighting}
+input_follows : (s channel : List ℕ) (st : State) (at from : ℕ) (m out message : List ℕ) {q : Quest} {found : Sighting}
     {out₁ : List ℕ} → q ≡ labelled_from false from → Seeks s channel at st.end m q st.end st.names out found out₁
     → (found.done.mark ≡ 0 → ⊥)
-    → NextVisible false s channel st at from m out message (Found (input_step found.at found.done)) message
+    → NextVisible false s channel st at from m out message (Some (input_step found.at found.done)) message
 input_follows s channel st at from m out message {q} {found} {out₁} e v z = record {
   exact = λ ps x ws t d l1 l2 l3 l5 l4 u.
       let a = ahead false x ps t u in
@@ -151,16 +150,28 @@ input_follows s channel st at from m out message {q} {found} {out₁} e v z = re
 }
   where
     of : (x : Message) (ws : List Move) → ShowsSight out₁ found (sight_of st.start ws) → Every (Offered false x) ws
-        → Shown st.start message (Found (input_step found.at found.done)) ws
+        → Shown st.start message (Some (input_step found.at found.done)) ws
     of x [] w o = absurd (z w)
     of x (alone p a ∷ ws) w ((o, small) also os) = input_shown st.start p a x ws message a.prefix w o
     of x (inside p j ∷ ws) w (o also os) = absurd o
     of x (between p t j ∷ ws) w (o also os) = absurd o
 
-pub ruleset follows = (none_follows, output_follows, input_follows)
+module _ (s channel : List ℕ) (st : State) (at from : ℕ) (m out message : List ℕ) {sending : Bool} {q : Quest} {found : Sighting} {out₁ : List ℕ}
+  where
+    pub sent_follows : {after : List ℕ} {r : Option Step} → sending ≡ true → q ≡ labelled_from sending from
+        → Seeks s channel at st.end m q st.end st.names out found out₁ → (found.done.mark ≡ 0 → ⊥)
+        → HandsOver out₁ found.at found.done message r after → NextVisible sending s channel st at from m out message r after
+    sent_follows e f v z h = rw e (output_follows s channel st at from m out message (rw e at f) v z h)
+
+    pub taken_follows : sending ≡ false → q ≡ labelled_from sending from → Seeks s channel at st.end m q st.end st.names out found out₁
+        → (found.done.mark ≡ 0 → ⊥)
+        → NextVisible sending s channel st at from m out message (Some (input_step found.at found.done)) message
+    taken_follows e f v z = rw e (input_follows s channel st at from m out message (rw e at f) v z)
+
+pub ruleset follows = (none_follows, sent_follows, taken_follows)
 
 -- By the label of the step.
-module _ (s channel : List ℕ) (st : State) (step : Step) (m out message : List ℕ) {r : Next} {after : List ℕ} where
+module _ (s channel : List ℕ) (st : State) (step : Step) (m out message : List ℕ) {r : Option Step} {after : List ℕ} where
   pub next_output : step.label ≡ Output → NextVisible true s channel st step.sender.at step.sender.mark m out message r after
       → NextLabelled s channel st step m out message r after
   next_output e h = record { output = λ f. h; input = λ f. absurd (let z : ◌≡◌ {A = ℕ} 0 1 = cc in omega arith) }

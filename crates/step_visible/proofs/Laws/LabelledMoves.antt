@@ -1,4 +1,5 @@
 -- What the next output or input is, against the list of the moves of a state ("Steps").
+use Rattle.std.specs.Prelude.{Option}
 use mathlib.Core.Path.{◌≡◌, refl, sym}
 use mathlib.Core.Bool.{Bool, true, false}
 use mathlib.Core.List.{List, ◌∷◌, ◌++◌}
@@ -25,7 +26,6 @@ use Rattle.step_label.specs.declared.step.Step.{Step}
 use Rattle.step_label.specs.declared.step.Actor.{Actor}
 use Rattle.step_label.specs.declared.step.Label.{Label}
 use Rattle.step_label.specs.declared.step.Label.TheVariants.{Output, Input}
-use Rattle.step_label.specs.declared.step.Next.{Next}
 use Rattle.step_visible.proofs.Laws.LabelledBehind.{Offered, moves_offered}
 use Rattle.index_process.specs.Index.{ShortModel}
 
@@ -66,8 +66,8 @@ pub record Asked (s channel : List ℕ) (st : code.State) (S : State.State) (ps 
     pub few : S.next ≤ 128
     pub fits : 510 ≤ length message
 
-module _ {s channel : List ℕ} {st : code.State} {S : State.State} {ps : List Placed} {x : Message} {m out message : List ℕ} {r : Next}
-    {after : List ℕ} (sending : Bool) (h : Asked s channel st S ps x m out message) where
+module _ {s channel : List ℕ} {st : code.State} {S : State.State} {ps : List Placed} {x : Message} {m out message : List ℕ}
+    {r : Option Step} {after : List ℕ} (sending : Bool) (h : Asked s channel st S ps x m out message) where
   followed : {at from : ℕ} (ws : List Move) → NextVisible sending s channel st at from m out message r after
       → Upcoming st.start at from (labelled_moves sending x S.next ps) ws → Shown st.start after r ws
   followed {at} {from} ws f u =
@@ -76,8 +76,8 @@ module _ {s channel : List ℕ} {st : code.State} {S : State.State} {ps : List P
       let v : Upcoming st.start at from (labelled_moves sending x st.names ps) ws = rw same at u in
       f.exact ps x ws t h.channelled h.short h.work h.room h.fits (omega (arith, h.few)) v
 
-module _ {s channel : List ℕ} {st : code.State} {S : State.State} {ps : List Placed} {x : Message} {m out message : List ℕ} {r : Next}
-    {after : List ℕ} {step : Step} (h : Asked s channel st S ps x m out message)
+module _ {s channel : List ℕ} {st : code.State} {S : State.State} {ps : List Placed} {x : Message} {m out message : List ℕ}
+    {r : Option Step} {after : List ℕ} {step : Step} (h : Asked s channel st S ps x m out message)
     (n : NextLabelled s channel st step m out message r after) where
   chosen : (sending : Bool) → step.label ≡ label_of sending
       → NextVisible sending s channel st (cursor_of sending step).at (cursor_of sending step).mark m out message r after

@@ -1,5 +1,6 @@
 -- The offer at a mark is reached from the record of its thread, and in the copies of a repl thread; the private names of what follows it are
 -- counted ("Steps").
+use Rattle.std.specs.Prelude.{Option}
 use mathlib.Core.Path.{◌≡◌, sym, ◌∙◌}
 use mathlib.Core.Bool.{Bool, true, false}
 use mathlib.Core.List.{List, ◌∷◌, ◌++◌}
@@ -26,7 +27,6 @@ use Rattle.state_record.specs.Place.{ProcessAt}
 use Rattle.state_record.specs.Record.{Placed, process_of, bound_of}
 use Rattle.state_head.specs.News.{news}
 use Rattle.state_head.specs.Count.{count_of}
-use Rattle.state_head.specs.declared.count.Counted.{Counted}
 use Rattle.state_record.specs.Stored.{Loads}
 use Rattle.state_task.specs.declared.task.Task.TheVariants.{Count}
 use Rattle.state_task.specs.declared.task.CopyAt.{CopyAt}
@@ -100,13 +100,13 @@ thread_itself d w e = thread_arrives d w (reaches_here e)
 pub ruleset arriving = (thread_arrives, thread_itself)
 
 -- What follows an offer that was reached is counted.
-behind_counted : {s argument m : List ℕ} {n i : ℕ} {r : Way} {c : Counted} {x : Message} (a : LocatedOffer) → ShortModel s
+behind_counted : {s argument m : List ℕ} {n i : ℕ} {r : Way} {c : Option ℕ} {x : Message} (a : LocatedOffer) → ShortModel s
     → CountsRest s argument r.at r.left m r.end n c → Arrives s m r (offer_site a i) → IsRunOf argument x → n ≤ 28664
     → c ≡ count_of a.rest (bound_after x a) n
 behind_counted {n = n} a short f d i small =
     arrived_rest a d i f (names_fitting n (Process.act a.prefix a.rest) d.prepared.process short small)
 
-pub thread_counted : {s argument m m₁ out : List ℕ} {at k mark n : ℕ} {r : Way} {c : Counted} → ShortModel s
+pub thread_counted : {s argument m m₁ out : List ℕ} {at k mark n : ℕ} {r : Way} {c : Option ℕ} → ShortModel s
     → Comes s at k m mark out r m₁ → CountsRest s argument r.at r.left m₁ r.end n c → Counts s argument at k m mark n out c
 thread_counted {k = k} short f g = record {
   exact = λ t x before after a h i later small few listed e.
@@ -222,7 +222,7 @@ copy_arrives {k = k} f g = record {
       });
 }
 
-pub copy_counted : {s argument m m₁ out : List ℕ} {at k mark n : ℕ} {r : Way} {c : CopyAt} {v : Counted} → ShortModel s
+pub copy_counted : {s argument m m₁ out : List ℕ} {at k mark n : ℕ} {r : Way} {c : CopyAt} {v : Option ℕ} → ShortModel s
     → ComesIn s at k m c mark out r m₁ → CountsRest s argument r.at r.left m₁ r.end n v → CountsIn s argument at k m c mark n out v
 copy_counted short f v = record {
   exact = λ t x pre post w before after a h i small copied place again later excluded listed e.

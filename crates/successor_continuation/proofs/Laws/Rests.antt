@@ -1,4 +1,5 @@
 -- The private names that the rests of a step take ("Steps").
+use Rattle.std.specs.Prelude.{Option, Some, None}
 use Prim.Native.Nat.{ℕ, ◌+◌, ◌-◌, ◌≤◌, ◌<◌}
 use native.Mathlib.Omega.{arith}
 use native.Mathlib.Nat.{le_refl}
@@ -11,12 +12,10 @@ use Rattle.step_transition.specs.Focus.{record_at, offers_of}
 use Rattle.step_transition.specs.CopyOffers.{ThreadAt, takers_at, excluded_by}
 use Rattle.step_transition.specs.Step.{step_of}
 use Rattle.successor_continuation.specs.Counting.{Counts, CountsIn}
-use Rattle.successor_continuation.specs.Rests.{only_of, then_of, CountsActor, CountsTaker, step_copies}
+use Rattle.successor_continuation.specs.declared.names.Rests.{Rests}
+use Rattle.successor_continuation.specs.Rests.{rests_at, only_of, then_of, CountsActor, CountsTaker, step_copies}
 use Rattle.step_label.specs.declared.step.Step as step
 use Rattle.step_label.specs.declared.step.Actor.{Actor}
-use Rattle.state_head.specs.declared.count.Counted.{Counted}
-use Rattle.state_head.specs.declared.count.Counted.TheVariants as counted
-use Rattle.successor_continuation.specs.declared.names.Rests.TheVariants as rests
 use Rattle.step_transition.proofs.Laws.Records.{record_long}
 use Rattle.step_transition.proofs.Laws.CopyMoves.{mode_of}
 
@@ -25,7 +24,7 @@ pub record_below : {s out m : List ℕ} {at k to : ℕ} (t : Placed) → ThreadA
 record_below t h = omega (arith, h.recorded.stands.size, record_long t, h.below)
 
 -- So where there is no room for one, nothing is to be counted.
-module _ {s : List ℕ} {st : code.State} {message m out : List ℕ} {n : ℕ} {r : Counted} where
+module _ {s : List ℕ} {st : code.State} {message m out : List ℕ} {n : ℕ} {r : Option ℕ} where
   pub actor_none : {v : Actor} {k : ℕ} → st.end < 4 → CountsActor s st v k n message m out r
   actor_none l = record { exact = λ p a x before after h i few e f. absurd (omega (arith, record_below p.thread h)) }
 
@@ -60,7 +59,7 @@ module _ {s : List ℕ} {st : code.State} {message m out : List ℕ} {n : ℕ} {
   }
 
 -- The copies of a taker in another thread open after those of the sender; one in the copies of a repl thread takes in these.
-module _ {s : List ℕ} {st : code.State} {message m out : List ℕ} {n : ℕ} {r : Counted} {v : step.Step} where
+module _ {s : List ℕ} {st : code.State} {message m out : List ℕ} {n : ℕ} {r : Option ℕ} {v : step.Step} where
   pub taker_between : v.arity ≡ 0 → Counts s message v.taker.at v.sender.next m v.taker.mark n out r
       → CountsTaker s st v n message m out r
   unfolding step_of
@@ -95,9 +94,17 @@ pub ruleset actors = (actor_none, actor_short, actor_counted)
 
 pub ruleset takings = (taker_none, taker_short, taker_between, taker_inside)
 
--- The answers where a rest meets no limit: for one rest, and for a second one.
-pub only_names : {c : Counted} {n : ℕ} → c ≡ counted.Names n → rests.At 0 n ≡ only_of c
+-- The answers where a rest meets no limit, and where one does: for one rest, and for a second one.
+pub only_names : {c : Option ℕ} {n : ℕ} → c ≡ Some n → rests_at 0 n ≡ only_of c
 only_names e = ap only_of (sym e)
 
-pub then_names : {c : Counted} {last n : ℕ} → c ≡ counted.Names n → rests.At last n ≡ then_of last c
+pub then_names : {c : Option ℕ} {last n : ℕ} → c ≡ Some n → rests_at last n ≡ then_of last c
 then_names {last = last} e = ap (then_of last) (sym e)
+
+pub only_none : {c : Option ℕ} {r : Option Rests} → r ≡ None → c ≡ None → r ≡ only_of c
+only_none e f = e ∙ ap only_of (sym f)
+
+pub then_none : {c : Option ℕ} {r : Option Rests} (last : ℕ) → r ≡ None → c ≡ None → r ≡ then_of last c
+then_none last e f = e ∙ ap (then_of last) (sym f)
+
+pub ruleset answers = (only_names, then_names, only_none, then_none)

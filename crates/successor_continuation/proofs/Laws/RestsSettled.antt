@@ -1,4 +1,5 @@
 -- The private names of the rests of a step are those of what it leads to ("Steps").
+use Rattle.std.specs.Prelude.{Option, Some, None}
 use Prim.Native.Nat.{ℕ, ◌+◌, ◌≤◌}
 use native.Mathlib.Omega.{arith}
 use mathlib.Core.Path.{◌≡◌, refl, sym, ◌∙◌, ap, subst}
@@ -30,10 +31,7 @@ use Rattle.step_label.specs.declared.step.Step as step
 use Rattle.step_label.specs.declared.step.Actor.{Actor}
 use Rattle.step_label.specs.declared.step.Label.{Label}
 use Rattle.step_label.specs.declared.step.Label.TheVariants.{Output, Input, Silent}
-use Rattle.state_head.specs.declared.count.Counted.{Counted}
-use Rattle.state_head.specs.declared.count.Counted.TheVariants as counted
 use Rattle.successor_continuation.specs.declared.names.Rests.{Rests}
-use Rattle.successor_continuation.specs.declared.names.Rests.TheVariants as rests
 use Rattle.step_transition.proofs.Laws.MovesFocuses as focuses
 use Rattle.step_transition.proofs.Laws.Threads.{thread_kept}
 use Rattle.successor_continuation.proofs.Laws.RestsMoves.{Among, BindsNothing, Shared, Joined, Stood, moves_stood}
@@ -48,15 +46,15 @@ then_counted : (b : Bool) (last n : ℕ) → then_of last (counted_of b n) ≡ r
 then_counted true last n = refl
 then_counted false last n = refl
 
-over_first : (b d : Bool) (last next n : ℕ) → counted_of b last ≡ counted.OverLimit → rests.OverLimit ≡ rests_of (b || d) n next
+over_first : (b d : Bool) (last next n : ℕ) → counted_of b last ≡ None → None ≡ rests_of (b || d) n next
 over_first true d last next n e = refl
 over_first false d last next n e = absurd (let z : ◌≡◌ {A = ℕ} 0 1 = cc in omega arith)
 
-last_counted : (b : Bool) (n last : ℕ) → counted_of b n ≡ counted.Names last → n ≡ last
+last_counted : (b : Bool) (n last : ℕ) → counted_of b n ≡ Some last → n ≡ last
 last_counted true n last e = absurd (let z : ◌≡◌ {A = ℕ} 0 1 = cc in omega arith)
 last_counted false n last e = cc
 
-then_both : (b : Bool) (n last : ℕ) (R : Process) (τ : Bound) → counted_of b n ≡ counted.Names last
+then_both : (b : Bool) (n last : ℕ) (R : Process) (τ : Bound) → counted_of b n ≡ Some last
     → then_of last (count_of R τ last) ≡ rests_of (b || over_settling R τ n) n (names R τ n)
 then_both true n last R τ e = absurd (let z : ◌≡◌ {A = ℕ} 0 1 = cc in omega arith)
 then_both false n last R τ e =
@@ -109,21 +107,21 @@ step_stood {st = st} {h = h} {v = v} w mv =
     (every_split (split_at mv.earlier mv.listed) (moves_stood _ h.at.placed v.label mv.channel)).1
 
 -- The rest of the sender of a silent step is counted, and two bytes hold the private names that follow it.
-record Sent (k : ℕ) (u : Pair) (c : Counted) : Type 0 where
+record Sent (k : ℕ) (u : Pair) (c : Option ℕ) : Type 0 where
   counts : c ≡ count_of u.sender.rest u.sender.bound u.taker.next
   small : last_of u ≤ 28664
   next : u.sender.next ≤ 28664
   later : k ≤ u.sender.next
 
 -- And that of the taker after it, wherever the traversals for the sender have written.
-record Both (s message m out : List ℕ) (st : code.State) (v : step.Step) (u : Pair) (c : Counted) : Type 0 where
+record Both (s message m out : List ℕ) (st : code.State) (v : step.Step) (u : Pair) (c : Option ℕ) : Type 0 where
   sent : Sent st.names u c
-  taken : {m₁ : List ℕ} {low high last : ℕ} {d : Counted} → Within low high m m₁ → CountsTaker s st v last message m₁ out d → last ≤ 28664
+  taken : {m₁ : List ℕ} {low high last : ℕ} {d : Option ℕ} → Within low high m m₁ → CountsTaker s st v last message m₁ out d → last ≤ 28664
       → d ≡ count_of u.taker.rest (u.taker.bound ▸ sent_by u) last
 
 module _ {s out m message : List ℕ} {st : code.State} {S : State} (h : WithinLimits s out st S) (l : Leading s st S m out) (x : Message) where
   -- A step of a single thread.
-  alone_settled : {v : Actor} {c : Counted} (p : Focus) (a : LocatedOffer) → Stood st.names h.at.placed (alone p a)
+  alone_settled : {v : Actor} {c : Option ℕ} (p : Focus) (a : LocatedOffer) → Stood st.names h.at.placed (alone p a)
       → v ≡ actor st.start p a → IsRunOf message (carried x (alone p a)) → CountsActor s st v st.names v.next message m out c
       → let o = outcome h.at.placed S.next x (alone p a) in only_of c ≡ rests_of o.large (last_for (alone p a)) o.next
   unfolding outcome last_for
@@ -139,7 +137,7 @@ module _ {s out m message : List ℕ} {st : code.State} {S : State} (h : WithinL
       ∙ only_counted (over_settling a.rest σ a.next) (names a.rest σ a.next)
 
   -- The sender of a silent step.
-  sender_counted : {v : Actor} {c : Counted} {n : ℕ} (p : Focus) (u : Pair) → focuses.Stands h.at.placed p
+  sender_counted : {v : Actor} {c : Option ℕ} {n : ℕ} (p : Focus) (u : Pair) → focuses.Stands h.at.placed p
       → Among (offers_of p.thread st.names) u.sender → BindsNothing u.sender → v ≡ actor st.start p u.sender
       → n ≡ u.taker.next → u.taker.next ≤ u.sender.next + 4096 → (y : Message) → IsRunOf message y
       → CountsActor s st v st.names n message m out c → Sent st.names u c
@@ -157,7 +155,7 @@ module _ {s out m message : List ℕ} {st : code.State} {S : State} (h : WithinL
       }
 
   -- The taker of a silent step: in another thread, or in the copies of the same one.
-  between_counted : {v : step.Step} {c : Counted} (p q : Focus) (u : Pair) → Shared st.names h.at.placed p q u
+  between_counted : {v : step.Step} {c : Option ℕ} (p q : Focus) (u : Pair) → Shared st.names h.at.placed p q u
       → v ≡ step_of st.start (between p q u) → IsRunOf message (sent_by u)
       → CountsActor s st v.sender st.names v.taker.next message m out c → Both s message m out st v u c
   unfolding step_of
@@ -175,7 +173,7 @@ module _ {s out m message : List ℕ} {st : code.State} {S : State} (h : WithinL
             ∙ ap (λ (ρ : Bound). count_of u.taker.rest ρ last) (sh.takes.bound (sent_by u));
       }
 
-  inside_counted : {v : step.Step} {c : Counted} (p : Focus) (j : CopyStep) → Joined st.names h.at.placed p j
+  inside_counted : {v : step.Step} {c : Option ℕ} (p : Focus) (j : CopyStep) → Joined st.names h.at.placed p j
       → v ≡ step_of st.start (inside p j) → IsRunOf message (sent_by j.pair)
       → CountsActor s st v.sender st.names v.taker.next message m out c → Both s message m out st v j.pair c
   unfolding step_of
@@ -197,29 +195,29 @@ module _ {s out m message : List ℕ} {st : code.State} {S : State} (h : WithinL
       }
 
 -- The names of both rests, or that one meets a limit.
-abbrev both_of : Pair → Rests
+abbrev both_of : Pair → Option Rests
 both_of u =
     let τ = u.taker.bound ▸ sent_by u in
     let n = last_of u in
     rests_of (over_settling u.sender.rest u.sender.bound u.taker.next || over_settling u.taker.rest τ n) n
     (names u.taker.rest τ n)
 
-module _ {s message m out : List ℕ} {st : code.State} {v : step.Step} {c : Counted} where
-  both_over : c ≡ counted.OverLimit → (u : Pair) → Both s message m out st v u c → rests.OverLimit ≡ both_of u
+module _ {s message m out : List ℕ} {st : code.State} {v : step.Step} {c : Option ℕ} where
+  both_over : c ≡ None → (u : Pair) → Both s message m out st v u c → None ≡ both_of u
   both_over e u b =
       over_first (over_settling u.sender.rest u.sender.bound u.taker.next) _ (last_of u) _ (last_of u) (sym b.sent.counts ∙ e)
 
-  both_names : {m₁ : List ℕ} {low high last : ℕ} {d : Counted} → c ≡ counted.Names last → Within low high m m₁
+  both_names : {m₁ : List ℕ} {low high last : ℕ} {d : Option ℕ} → c ≡ Some last → Within low high m m₁
       → CountsTaker s st v last message m₁ out d → (u : Pair) → Both s message m out st v u c
       → then_of last d ≡ both_of u
   both_names {last = last} e a taking u b =
       let large = over_settling u.sender.rest u.sender.bound u.taker.next in
-      let f : counted_of large (last_of u) ≡ counted.Names last = sym b.sent.counts ∙ e in
+      let f : counted_of large (last_of u) ≡ Some last = sym b.sent.counts ∙ e in
       let small : last ≤ 28664 = omega (arith, last_counted large (last_of u) last f, b.sent.small) in
       ap (then_of last) (b.taken a taking small) ∙ then_both large (last_of u) last u.taker.rest (u.taker.bound ▸ sent_by u) f
 
   -- Whatever silent step it is.
-  both_settled : {r : Rests} → CountsActor s st v.sender st.names v.taker.next message m out c
+  both_settled : {r : Option Rests} → CountsActor s st v.sender st.names v.taker.next message m out c
       → ((u : Pair) → Both s message m out st v u c → r ≡ both_of u) → SettlesSilent s st v message m out r
   unfolding outcome last_for step_of carried
   both_settled {r} count all = record { exact = λ e. record { exact = λ S h x w mv l. of S h x l e w mv.same (step_stood w mv) mv.labelled } }
@@ -232,18 +230,18 @@ module _ {s message m out : List ℕ} {st : code.State} {v : step.Step} {c : Cou
       of S h x l e (between p q u) f stood i = all u (between_counted h l x p q u stood f i count)
 
 -- The laws of the functions.
-module _ {s message m out : List ℕ} {st : code.State} {v : step.Step} {c : Counted} where
-  pub silent_over : CountsActor s st v.sender st.names v.taker.next message m out c → c ≡ counted.OverLimit
-      → SettlesSilent s st v message m out rests.OverLimit
+module _ {s message m out : List ℕ} {st : code.State} {v : step.Step} {c : Option ℕ} where
+  pub silent_over : CountsActor s st v.sender st.names v.taker.next message m out c → c ≡ None
+      → SettlesSilent s st v message m out None
   silent_over count e = both_settled count (both_over e)
 
-  pub silent_both : {m₁ : List ℕ} {low high last : ℕ} {d : Counted} {r : Rests}
-      → CountsActor s st v.sender st.names v.taker.next message m out c → c ≡ counted.Names last → Within low high m m₁
+  pub silent_both : {m₁ : List ℕ} {low high last : ℕ} {d : Option ℕ} {r : Option Rests}
+      → CountsActor s st v.sender st.names v.taker.next message m out c → c ≡ Some last → Within low high m m₁
       → CountsTaker s st v last message m₁ out d → r ≡ then_of last d → SettlesSilent s st v message m out r
   silent_both count e a taking f = both_settled count (λ u b. f ∙ both_names e a taking u b)
 
   -- A step of one thread, by which of the two acts with its label.
-  settles_alone : {r : Rests} (label : Label) (who : step.Step → Actor) → ¬ (Silent ≡ label)
+  settles_alone : {r : Option Rests} (label : Label) (who : step.Step → Actor) → ¬ (Silent ≡ label)
       → ((p : Focus) (a : LocatedOffer) → (step_of st.start (alone p a)).label ≡ label → who (step_of st.start (alone p a)) ≡ actor st.start p a)
       → v.label ≡ label → CountsActor s st (who v) st.names (who v).next message m out c → r ≡ only_of c → Settles s st v message m out r
   unfolding step_of
@@ -258,15 +256,15 @@ module _ {s message m out : List ℕ} {st : code.State} {v : step.Step} {c : Cou
       of S h x l (inside p j) f stood i = absurd (loud (sym (ap (λ (w : step.Step). w.label) f) ∙ e))
       of S h x l (between p q u) f stood i = absurd (loud (sym (ap (λ (w : step.Step). w.label) f) ∙ e))
 
-  pub settles_output : {r : Rests} → v.label ≡ Output → CountsActor s st v.sender st.names v.sender.next message m out c
+  pub settles_output : {r : Option Rests} → v.label ≡ Output → CountsActor s st v.sender st.names v.sender.next message m out c
       → r ≡ only_of c → Settles s st v message m out r
   settles_output = settles_alone Output (λ w. w.sender) (λ e. let z : ◌≡◌ {A = ℕ} 0 1 = cc in omega arith) (sender_alone st.start)
 
-  pub settles_input : {r : Rests} → v.label ≡ Input → CountsActor s st v.taker st.names v.taker.next message m out c
+  pub settles_input : {r : Option Rests} → v.label ≡ Input → CountsActor s st v.taker st.names v.taker.next message m out c
       → r ≡ only_of c → Settles s st v message m out r
   settles_input = settles_alone Input (λ w. w.taker) (λ e. let z : ◌≡◌ {A = ℕ} 0 1 = cc in omega arith) (taker_alone st.start)
 
-pub settles_silent : {s message m out : List ℕ} {st : code.State} {v : step.Step} {r : Rests} → v.label ≡ Silent
+pub settles_silent : {s message m out : List ℕ} {st : code.State} {v : step.Step} {r : Option Rests} → v.label ≡ Silent
     → SettlesSilent s st v message m out r → Settles s st v message m out r
 settles_silent e h = h.exact e
 

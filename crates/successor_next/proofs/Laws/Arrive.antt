@@ -1,6 +1,8 @@
 -- The step after one, and the state that it leads to ("Steps"; "Judging and its count").
+use Rattle.std.specs.Prelude.{Option, None, Some}
 use mathlib.Core.Path.{◌≡◌, refl, sym, ap, subst, ◌∙◌}
 use mathlib.Core.Bool.{Bool}
+use mathlib.Core.Logic.{◌⊎◌, inl, inr}
 use mathlib.Core.List.{List, [], ◌∷◌, ◌++◌, append_assoc}
 use Prim.Native.Nat.{ℕ, ◌-◌, ◌≤◌, ◌<◌}
 use native.Mathlib.Omega.{arith}
@@ -12,7 +14,6 @@ use Rattle.buffer.specs.Buffer.{Within}
 use Rattle.buffer.proofs.Laws.Buffer.{part}
 use Rattle.state_record.specs.declared.state.State as code
 use Rattle.state_layout.specs.Loaded.{IsRunOf}
-use Rattle.state_start.specs.declared.form.Formed.{Formed}
 use Rattle.step_located.proofs.Laws.Everywhere.{every_first}
 use Rattle.step_transition.specs.Moves.{Move}
 use Rattle.step_transition.specs.WithinLimits.{WithinLimits}
@@ -22,14 +23,11 @@ use Rattle.step_transition.specs.Moving.{carried, Leading, Moving}
 use Rattle.step_label.specs.declared.step.Step as step
 use Rattle.step_label.specs.declared.step.Label.{Label}
 use Rattle.step_label.specs.declared.step.Label.TheVariants.{Output, Input, Silent}
-use Rattle.step_label.specs.declared.step.Next.{Next}
-use Rattle.step_label.specs.declared.step.Next.TheVariants as next
 use Rattle.step_between.specs.Buffered.{Answered}
 use Rattle.step_next.specs.Next.{Nexts}
 use Rattle.successor_state.specs.Lead.{LeadsFor}
 use Rattle.successor_rebuild.proofs.Laws.Formed.{within_kept}
-use Rattle.successor_next.specs.Arrive.{Taken, Leaving, Leaves, LeavesBySending, ArrivedAt, Arrives}
-use Rattle.successor_next.specs.declared.arrive.Arrived.TheVariants.{By, None}
+use Rattle.successor_next.specs.Arrive.{Taken, Leaving, Leaves, LeavesBySending, arrived, ArrivedAt, Arrives}
 use Rattle.successor_next.proofs.Laws.Sending.{Sending, moves_send}
 
 -- What the step sends.
@@ -52,7 +50,7 @@ moving h y w l g = record {
 }
 
 -- Where a step leads.
-module _ {stepless : Bool} {s message m out after : List ℕ} {st : code.State} {v : step.Step} {r : Formed} where
+module _ {stepless : Bool} {s message m out after : List ℕ} {st : code.State} {v : step.Step} {r : Option code.State} where
   pub leaves_input : {taken : List ℕ} → v.label ≡ Input → LeadsFor stepless s st v taken m out r after → Leaves stepless s taken message st v m out r after
   leaves_input {taken} e d = record {
     exact = λ S h y w l room.
@@ -84,13 +82,12 @@ module _ {stepless : Bool} {s message m out after : List ℕ} {st : code.State} 
     };
   }
 
-  pub leaves_output : {taken : List ℕ} → v.label ≡ Output → LeavesBySending stepless s message st v m out r after → Leaves stepless s taken message st v m out r after
-  leaves_output {taken} e d = d.exact (λ i. absurd (let z : ◌≡◌ {A = ℕ} 0 1 = cc in omega arith)) taken
+  pub leaves_sent : {taken : List ℕ} → (v.label ≡ Output) ⊎ (v.label ≡ Silent) → LeavesBySending stepless s message st v m out r after
+      → Leaves stepless s taken message st v m out r after
+  leaves_sent {taken} (inl e) d = d.exact (λ i. absurd (let z : ◌≡◌ {A = ℕ} 0 1 = cc in omega arith)) taken
+  leaves_sent {taken} (inr e) d = d.exact (λ i. absurd (let z : ◌≡◌ {A = ℕ} 0 1 = cc in omega arith)) taken
 
-  pub leaves_silent : {taken : List ℕ} → v.label ≡ Silent → LeavesBySending stepless s message st v m out r after → Leaves stepless s taken message st v m out r after
-  leaves_silent {taken} e d = d.exact (λ i. absurd (let z : ◌≡◌ {A = ℕ} 0 1 = cc in omega arith)) taken
-
-pub ruleset leavings = (leaves_input, leaves_output, leaves_silent, sends_part, sends_none)
+pub ruleset leavings = (leaves_input, leaves_sent, sends_part, sends_none)
 
 -- The moves behind a step are some of the label's.
 pub listed : {l : Label} {start : ℕ} {ws others : List Move} {v : step.Step} → Behind l start ws v others
@@ -103,9 +100,10 @@ searching : {s m out message : List ℕ} {st : code.State} {S : State} → 510 �
 searching long o = record { short = o.short; wide = o.wide; room = omega (arith, o.room); long = long }
 
 -- The next step, and then where it leads.
-module _ {s channel m out buffered message : List ℕ} {st : code.State} {from : step.Step} {r : Next} {on said : List ℕ}
+module _ {s channel m out buffered message : List ℕ} {st : code.State} {from : step.Step} {r : Option step.Step} {on said : List ℕ}
     (n : Nexts s channel st from m out buffered message r on said) where
-  pub arrives_none : {stepless : Bool} {taken after : List ℕ} → r ≡ next.None → Arrives stepless s channel taken st from m out buffered message None after on said
+  pub arrives_none : {stepless : Bool} {taken after : List ℕ} → r ≡ None
+      → Arrives stepless s channel taken st from m out buffered message None after on said
   arrives_none {stepless} {taken} {after} e = record {
     exact = λ S x y h c t o wide long {others} b. nowhere S h y others (n.exact S x h c (searching long o) wide b);
   }
@@ -115,9 +113,9 @@ module _ {s channel m out buffered message : List ℕ} {st : code.State} {from :
       nowhere S h y [] d = refl
       nowhere S h y (w ∷ others) d = absurd (let z : ◌≡◌ {A = ℕ} 0 1 = cc in omega arith)
 
-  pub arrives_by : {stepless : Bool} {taken m₁ out₁ after : List ℕ} {v : step.Step} {f : Formed} {high high₁ : ℕ} → r ≡ next.Found v
+  pub arrives_by : {stepless : Bool} {taken m₁ out₁ after : List ℕ} {v : step.Step} {f : Option code.State} {high high₁ : ℕ} → r ≡ Some v
       → Within 0 high m m₁ → Within st.end high₁ out out₁ → Leaves stepless s taken said st v m₁ out₁ f after
-      → Arrives stepless s channel taken st from m out buffered message (By v f) after on said
+      → Arrives stepless s channel taken st from m out buffered message (arrived v f) after on said
   unfolding within_kept
   arrives_by {stepless} {taken} {m₁} {out₁} {after} {v} {f} e wm wo d = record {
     exact = λ S x y h c t o wide long {others} b. by S x y h t o others b.behind (n.exact S x h c (searching long o) wide b);
@@ -125,7 +123,7 @@ module _ {s channel m out buffered message : List ℕ} {st : code.State} {from :
     where
       by : (S : State) (x y : Message) (h : WithinLimits s out st S) → Taken S taken from.label y → Leading s st S m out → (others : List Move)
           → Behind from.label st.start (moves_of from.label x S.next h.at.placed) from others
-          → Answered st.start on said r others → ArrivedAt stepless s st S h.at.placed y (By v f) after on said others
+          → Answered st.start on said r others → ArrivedAt stepless s st S h.at.placed y (arrived v f) after on said others
       by S x y h t o [] b d = absurd (let z : ◌≡◌ {A = ℕ} 0 1 = cc in omega arith)
       by S x y h t o (w ∷ others) b (g, kept) =
           let same : v ≡ step_of st.start w = cc in

@@ -1,4 +1,5 @@
 -- The private names that a process takes, and those of what follows an output or an input ("Steps"; "Judging and its count").
+use Rattle.std.specs.Prelude.{Option, Some, None}
 use mathlib.Core.Path.{◌≡◌, refl, sym, ◌∙◌}
 use mathlib.Core.Bool.{true≢false}
 use mathlib.Core.List.{List, [], ◌∷◌}
@@ -16,8 +17,6 @@ use Rattle.state_record.proofs.Laws.Process.{process_kind, after-output, after-i
 use Rattle.state_head.specs.News.{news}
 use Rattle.state_head.specs.Head.{CanSettle}
 use Rattle.state_head.specs.Count.{count_of, Counts}
-use Rattle.state_head.specs.declared.count.Counted.{Counted}
-use Rattle.state_head.specs.declared.count.Counted.TheVariants.{Names, OverLimit}
 use Rattle.state_head.proofs.Laws.Count.{counted_over, counted_names}
 use Rattle.step_located.specs.Located.{LocatedOffer}
 use Rattle.state_layout.specs.Loaded.{IsRunOf}
@@ -33,17 +32,17 @@ pub to_settle : {s m : List ℕ} {at left end n : ℕ} {P : Process} {ρ : Bound
 to_settle y h = record { next = y.next; process = y.process; bound = y.bound; room = y.room; fits = h }
 
 -- If no limit is met, the next private name is the one after those of the process.
-module _ {s m : List ℕ} {at left end n : ℕ} {a : Counted} (c : Counts s at left m end n a) where
-  pub takes_names : {next : ℕ} → a ≡ Names next → Takes s at left m end n next
+module _ {s m : List ℕ} {at left end n : ℕ} {a : Option ℕ} (c : Counts s at left m end n a) where
+  pub takes_names : {next : ℕ} → a ≡ Some next → Takes s at left m end n next
   takes_names is = record { exact = λ P ρ y f. (counted_names P ρ n (c.exact P ρ y) is).1 }
 
-  pub takes_none : {next : ℕ} → a ≡ OverLimit → Takes s at left m end n next
+  pub takes_none : {next : ℕ} → a ≡ None → Takes s at left m end n next
   takes_none is = record { exact = λ P ρ y f. absurd (true≢false (sym (counted_over P ρ n (c.exact P ρ y) is) ∙ f)) }
 
 pub ruleset takes = (takes_names, takes_none)
 
 -- Nothing that could be counted stands there, for want of a node, of bytes or of room, or the label is none.
-module _ {s argument m : List ℕ} {at left end n : ℕ} {r : Counted} where
+module _ {s argument m : List ℕ} {at left end n : ℕ} {r : Option ℕ} where
   none_there : ((a : LocatedOffer) (x : Message) → Prepared s at left m end (Process.act a.prefix a.rest) a.bound → IsRunOf argument x → ⊥)
       → CountsRest s argument at left m end n r
   none_there f = record { exact = λ a x y i h. absurd (f a x y i) }
@@ -61,7 +60,7 @@ module _ {s argument m : List ℕ} {at left end n : ℕ} {r : Counted} where
   no_label e = none_there λ a x y i. omega (arith, i.small)
 
 -- What follows an output is counted, and what follows an input, for which one message more is bound.
-module _ {s argument m : List ℕ} {at left end n to kind : ℕ} {r : Counted} (l : Rests s at to) (k : kind ≡ get_or s at 0) where
+module _ {s argument m : List ℕ} {at left end n to kind : ℕ} {r : Option ℕ} (l : Rests s at to) (k : kind ≡ get_or s at 0) where
   pub rest_output : kind ≡ 2 → Counts s to (left - 1) m end n r → CountsRest s argument at left m end n r
   rest_output z f = record { exact = λ a x y i h. only a a.prefix refl x y h }
     where

@@ -1,5 +1,6 @@
 -- What the way down to a mark comes to, for the offers and the repl threads of a process and of a thread, and how it goes on from there
 -- ("Steps").
+use Rattle.std.specs.Prelude.{Option}
 use mathlib.Core.Path.{◌≡◌, refl, ◌∙◌}
 use mathlib.Core.Bool.{false, or-false}
 use mathlib.Core.List.{List}
@@ -18,7 +19,6 @@ use Rattle.buffer.proofs.Laws.Buffer.{unchanged}
 use Rattle.message_term.specs.Bound.{BoundTo}
 use Rattle.state_head.specs.News.{news}
 use Rattle.state_head.specs.Count.{count_of}
-use Rattle.state_head.specs.declared.count.Counted.{Counted}
 use Rattle.state_record.specs.Record.{Placed, process_of, bound_of, Standing}
 use Rattle.state_record.proofs.Laws.Process.{of_repl}
 use Rattle.step_located.specs.Located.{LocatedOffer, located_offers}
@@ -49,7 +49,7 @@ module _ {s after : List ℕ} {r : Way} where
   )
 
   -- From an offer that was reached its rest is counted.
-  pub arrived_rest : (a : LocatedOffer) {argument : List ℕ} {x : Message} {i n : ℕ} {c : Counted} → Arrives s after r (offer_site a i) → IsRunOf argument x
+  pub arrived_rest : (a : LocatedOffer) {argument : List ℕ} {x : Message} {i n : ℕ} {c : Option ℕ} → Arrives s after r (offer_site a i) → IsRunOf argument x
       → CountsRest s argument r.at r.left after r.end n c → n + news a.rest ≤ 32760 → c ≡ count_of a.rest (bound_after x a) n
   arrived_rest a {x = x} d l f h = (rw d.place at f).exact a x d.prepared l h
 

@@ -1,4 +1,5 @@
 -- The way down to the process at a mark, through each kind of process ("Steps").
+use Rattle.std.specs.Prelude.{Option, Some, None}
 use mathlib.Core.Path.{◌≡◌, refl, sym, ◌∙◌}
 use mathlib.Core.Bool.{Bool, true, false, true≢false}
 use mathlib.Core.List.{List, [], ◌∷◌, ◌++◌, append-nil}
@@ -22,7 +23,6 @@ use Rattle.decode_layout.specs.Ends.{TermsEnd}
 use Rattle.message_term.specs.Bound.{Binds}
 use Rattle.message_term.specs.Work.{BindWorked}
 use Rattle.message_term.specs.declared.work.Worked.{Worked}
-use Rattle.message_term.specs.declared.work.Worked.TheVariants.{Done, TooLarge}
 use Rattle.message_term.proofs.Laws.Work.{said_over, said_small}
 use Rattle.message_term.proofs.Theorems.{bound_further}
 use Rattle.state_record.specs.Place.{ProcessAt, then_at, else_at, body_at, right_at}
@@ -172,8 +172,8 @@ module _ {s : List ℕ} {f : Way} {mark first : ℕ} (t : TermsEnd s (f.at + 1) 
 pub ruleset ifs_passed = (then_passed, else_passed)
 
 -- Let.
-module _ {s m m₁ : List ℕ} {f : Way} {t : Worked} (b : BindWorked s (f.at + 1) m 0 f.end t m₁) where
-  pub let_over : {r : Way} {after : List ℕ} → t ≡ TooLarge → LeadsPastAny 5 s m f r after
+module _ {s m m₁ : List ℕ} {f : Way} {t : Option Worked} (b : BindWorked s (f.at + 1) m 0 f.end t m₁) where
+  pub let_over : {r : Way} {after : List ℕ} → t ≡ None → LeadsPastAny 5 s m f r after
   let_over is = record {
     exact = λ mark. passes_if 5 λ P (M, Q, e) ρ w y a.
         let (i, p) = of_let M Q (rw e at y).process in
@@ -181,12 +181,12 @@ module _ {s m m₁ : List ℕ} {f : Way} {t : Worked} (b : BindWorked s (f.at + 
         absurd (true≢false (sym (said_over _ _ _ (b.answer M ρ i (bound_at y.bound)) is) ∙ small));
   }
 
-  pub let_passed : {next last : ℕ} → t ≡ Done next last → Within f.end (f.end + 4098) m m₁ → last ≤ f.end + 2 + 510
-      → LeadsPastAny 5 s m f (record { at = next; left = f.left - 1; end = last; names = f.names; opens = f.opens }) m₁
-  let_passed {next} {last} is h l = record { exact = λ mark. passes_if 5 λ P (M, Q, e). rw e (one M Q) }
+  pub let_passed : {x : Worked} → t ≡ Some x → Within f.end (f.end + 4098) m m₁ → x.end ≤ f.end + 2 + 510
+      → LeadsPastAny 5 s m f (record { at = x.next; left = f.left - 1; end = x.end; names = f.names; opens = f.opens }) m₁
+  let_passed {x} is h l = record { exact = λ mark. passes_if 5 λ P (M, Q, e). rw e (one M Q) }
     where
       one : {mark : ℕ} (M : Term) (P : Process)
-          → Passing s m f mark (record { at = next; left = f.left - 1; end = last; names = f.names; opens = f.opens }) m₁ (let_in M P)
+          → Passing s m f mark (record { at = x.next; left = f.left - 1; end = x.end; names = f.names; opens = f.opens }) m₁ (let_in M P)
       one M P ρ w y a here e o = absurd (o (omega arith))
       one M P ρ w y a (body d) e o =
           let (i, p) = of_let M P y.process in

@@ -1,4 +1,5 @@
 -- The state that an output or an input of a thread leads to that acts itself, as it is formed ("Steps"; "Judging and its count").
+use Rattle.std.specs.Prelude.{Option}
 use mathlib.Core.Path.{◌≡◌, refl, sym, ap, subst, ◌∙◌}
 use mathlib.Core.Bool.{Bool, ◌||◌}
 use mathlib.Core.List.{List, [], ◌∷◌, ◌++◌}
@@ -22,7 +23,6 @@ use Rattle.state_progress.specs.declared.progress.Progress.{Progress}
 use Rattle.state_record.proofs.Laws.Process.{kind_of, process_kind}
 use Rattle.state_head.proofs.Laws.Crowd.{roomy}
 use Rattle.state_start.specs.Form.{Finishes}
-use Rattle.state_start.specs.declared.form.Formed.{Formed}
 use Rattle.step_located.specs.Located.{LocatedOffer}
 use Rattle.step_located.specs.Rebuilt.{nodes_of}
 use Rattle.step_located.proofs.Laws.Copies.{split_at}
@@ -68,7 +68,7 @@ module _ {s out message : List ℕ} {st : code.State} {S : State} (h : WithinLim
   own_end = record_end p.thread p.behind (threads_from p.before (p.thread ∷ p.behind) all_threads)
 
 -- Where no record stands, there is no such step.
-module _ {s message m out after : List ℕ} {st : code.State} {q : Bool} {u : Actor} {f : Formed} where
+module _ {s message m out after : List ℕ} {st : code.State} {q : Bool} {u : Actor} {f : Option code.State} where
   pub alone_early : u.at < st.start → LeadsAlone s st q u message m out f after
   alone_early l = record { exact = λ v S h x p a moving e own plain leading. absurd (omega (arith, ap (λ w. w.at) own)) }
 
@@ -92,7 +92,7 @@ module _ {s message m out after : List ℕ} {st : code.State} {q : Bool} {u : Ac
   }
 
 -- The aliases, and then the threads.
-leads_alone : {s message m out mid after : List ℕ} {st : code.State} {q : Bool} {u : Actor} {n : ℕ} {b r : Progress} {halves : Halves} {f : Formed}
+leads_alone : {s message m out mid after : List ℕ} {st : code.State} {q : Bool} {u : Actor} {n : ℕ} {b r : Progress} {halves : Halves} {f : Option code.State}
     → n ≡ number_at out (u.at + 2) → Around mid st u.at (u.at + 4 + n) q (length message) b halves → Carries st message q u.next out b mid → st.end ≤ b.state.end → Within st.end (length out) out mid
     → Replaces s st u.at (u.at + 4 + n) halves message m mid b r after → Extends b r → Within b.state.end (length mid) mid after → Finishes r f
     → LeadsAlone s st q u message m out f after
@@ -140,14 +140,14 @@ leads_alone {s} {message} {m} {out} {mid} {after} {st} {q} {u} {n} {b} {r} {halv
         subst (λ (c : Bool). RepresentsResult s after r (unless (rest_over x (alone p a) || c) (going (written S o)))) (full_written S o) (rw course at all)
 
 pub leads_until : {s message m out mid after : List ℕ} {st : code.State} {q : Bool} {u : Actor} {next : ℕ} {b r : Progress} {halves : Halves}
-    {f : Formed} → Around mid st u.at next q (length message) b halves → Carries st message q u.next out b mid → st.end ≤ b.state.end → Within st.end (length out) out mid
+    {f : Option code.State} → Around mid st u.at next q (length message) b halves → Carries st message q u.next out b mid → st.end ≤ b.state.end → Within st.end (length out) out mid
     → Replaces s st u.at next halves message m mid b r after → Extends b r → Within b.state.end (length mid) mid after → Finishes r f
     → LeadsUntil s st q u next message m out f after
 leads_until around carries above within replaces extends further finishes = record {
   exact = λ d e. leads_alone d (rw e at around) carries above within (rw e at replaces) extends further finishes;
 }
 
-pub alone_found : {s message m out after : List ℕ} {st : code.State} {q : Bool} {u : Actor} {n : ℕ} {f : Formed} → n ≡ number_at out (u.at + 2)
+pub alone_found : {s message m out after : List ℕ} {st : code.State} {q : Bool} {u : Actor} {n : ℕ} {f : Option code.State} → n ≡ number_at out (u.at + 2)
     → LeadsUntil s st q u (u.at + 4 + n) message m out f after → LeadsAlone s st q u message m out f after
 alone_found d leads = leads.exact d refl
 

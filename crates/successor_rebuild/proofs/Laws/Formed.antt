@@ -1,4 +1,5 @@
 -- A state that a step leads to, as it is written behind the one that it leaves ("Steps"; "Judging and its count").
+use Rattle.std.specs.Prelude.{Option}
 use mathlib.Core.Path.{◌≡◌, refl, sym, ap, subst, ◌∙◌}
 use mathlib.Core.Bool.{Bool, true, false, ◌||◌, true≢false}
 use mathlib.Core.List.{List, ◌∷◌, ◌++◌, append-nil}
@@ -25,7 +26,6 @@ use Rattle.state_start.specs.Form.{state_of, Forms, Finishes}
 use Rattle.state_layout.specs.Layout.{StateAt, over_arrival}
 use Rattle.state_progress.specs.Progress.{Extends}
 use Rattle.state_record.specs.declared.state.State as code
-use Rattle.state_start.specs.declared.form.Formed.{Formed}
 use Rattle.state_progress.specs.declared.progress.Progress.{Progress}
 use Rattle.step_transition.specs.Moves.{Move, alone, inside, between}
 use Rattle.step_transition.specs.Outcome.{Outcome, outcome, arrival_of}
@@ -91,7 +91,7 @@ module _ (s after : List ℕ) (begin : ℕ) (S : State) (o : Outcome) (r : Progr
   }
 
   -- The traversal met a limit, or it shows the threads.
-  formed : {f : Formed} (over : Bool) → RepresentsResult s after r (unless over (going (written S o)))
+  formed : {f : Option code.State} (over : Bool) → RepresentsResult s after r (unless over (going (written S o)))
       → over_arrival (arrival_of S o) ≡ (over || ltb 128 o.next) → Finishes r f → Forms s begin (arrival_of S o) f after
   formed true d e h = record {
     none = λ t. h.over d.off;
@@ -110,7 +110,7 @@ module _ (s after : List ℕ) (begin : ℕ) (S : State) (o : Outcome) (r : Progr
       }
 
 -- The aliases are copied, the threads are written behind them, and the end is judged.
-module _ {s message m out mid after : List ℕ} {st : code.State} {v : step.Step} {n : ℕ} {q : Bool} {b r : Progress} {f : Formed}
+module _ {s message m out mid after : List ℕ} {st : code.State} {v : step.Step} {n : ℕ} {q : Bool} {b r : Progress} {f : Option code.State}
     (carries : Carries st message q n out b mid) (e : q ≡ sends v.label) (extends : Extends b r) (above : st.end ≤ b.state.end)
     (further : Within b.state.end (length mid) mid after) (finishes : Finishes r f) where
   module _ (S : State) (h : WithinLimits s out st S) (x : Message) (w : Move) (moving : Moving s out st S h v x w message) (leading : Leading s st S m out) where

@@ -1,4 +1,5 @@
 -- The state that a step leads to, as it is formed, or over a limit ("Steps"; "Judging and its count").
+use Rattle.std.specs.Prelude.{Option}
 use mathlib.Core.Path.{◌≡◌, refl, sym, ap, subst, ◌∙◌}
 use mathlib.Core.Bool.{Bool, true, false, ◌||◌}
 use mathlib.Core.List.{List, [], ◌++◌}
@@ -15,7 +16,6 @@ use Rattle.state_head.specs.Traverse.{Meant}
 use Rattle.state_start.specs.Form.{Finishes}
 use Rattle.state_progress.specs.Progress.{Extends}
 use Rattle.state_record.specs.declared.state.State as code
-use Rattle.state_start.specs.declared.form.Formed.{Formed}
 use Rattle.state_progress.specs.declared.progress.Progress.{Progress}
 use Rattle.step_transition.specs.Moves.{Move}
 use Rattle.step_transition.specs.Outcome.{Outcome, outcome}
@@ -45,7 +45,7 @@ unless_twice true b c = refl
 unless_twice false b c = refl
 
 -- The threads are rebuilt.
-module _ {s message m out mid after : List ℕ} {st : code.State} {v : step.Step} {last next : ℕ} {q : Bool} {b r : Progress} {f : Formed} {T : Tasks}
+module _ {s message m out mid after : List ℕ} {st : code.State} {v : step.Step} {last next : ℕ} {q : Bool} {b r : Progress} {f : Option code.State} {T : Tasks}
     (carries : Carries st message q next out b mid) (e : q ≡ sends v.label) (tasks : T ≡ tasks_of v last st.names)
     (rebuilds : Rebuilds s message st.start st.end m T.first T.task T.second T.other mid b r after) (extends : Extends b r)
     (within : Within st.end (length out) out mid) (further : Within b.state.end (length mid) mid after) (finishes : Finishes r f) where

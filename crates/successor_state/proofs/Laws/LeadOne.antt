@@ -1,4 +1,5 @@
 -- The state that an output or an input leads to: a thread that acts itself is replaced at once ("Steps"; "Judging and its count").
+use Rattle.std.specs.Prelude.{Option}
 use mathlib.Core.Path.{◌≡◌, sym, ap, ◌∙◌}
 use mathlib.Core.Bool.{Bool, true}
 use mathlib.Core.List.{List}
@@ -8,7 +9,6 @@ use Rattle.meaning.specs.Messages.Term.{Message}
 use Rattle.meaning.specs.Steps.State.{State}
 use Rattle.state_record.specs.declared.state.State as code
 use Rattle.state_start.specs.Form.{Forms}
-use Rattle.state_start.specs.declared.form.Formed.{Formed}
 use Rattle.step_located.specs.Located.{LocatedOffer}
 use Rattle.step_transition.specs.Focus.{Focus}
 use Rattle.step_transition.specs.Moves.{Move, alone, inside, between}
@@ -28,7 +28,7 @@ use Rattle.successor_rebuild.specs.Kind.{ActsItself}
 use Rattle.successor_prefix.proofs.Laws.AloneLead.{own_thread}
 
 -- So a step of one thread leads there, whichever way it is formed.
-module _ {s message m out after : List ℕ} {st : code.State} {v : step.Step} {u : Actor} {f : Formed} where
+module _ {s message m out after : List ℕ} {st : code.State} {v : step.Step} {u : Actor} {f : Option code.State} where
   pub one_alone : {c q : Bool} → ActsItself s u.at out c → c ≡ true → q ≡ sends v.label → LeadsAlone s st q u message m out f after
       → LeadsOne s st v u message m out f after
   one_alone acts so e leads = record {
@@ -44,7 +44,7 @@ module _ {s message m out after : List ℕ} {st : code.State} {v : step.Step} {u
 pub ruleset ones = (one_alone, one_named)
 
 -- The steps of a label.
-module _ {s message m out after : List ℕ} {st : code.State} {v : step.Step} {f : Formed} where
+module _ {s message m out after : List ℕ} {st : code.State} {v : step.Step} {f : Option code.State} where
   leads_one : (label : Label) (who : step.Step → Actor) → ¬ (Silent ≡ label)
       → ((p : Focus) (a : LocatedOffer) → (step_of st.start (alone p a)).label ≡ label → who (step_of st.start (alone p a)) ≡ actor st.start p a)
       → v.label ≡ label → LeadsOne s st v (who v) message m out f after → Leads s st v message m out f after

@@ -1,4 +1,5 @@
 -- The state that a step leads to: first the names of its rests, then its threads ("Steps"; "Judging and its count").
+use Rattle.std.specs.Prelude.{Option, Some, None}
 use mathlib.Core.Path.{◌≡◌, refl, sym, ◌∙◌}
 use mathlib.Core.Bool.{Bool, true, false, ◌||◌, true≢false}
 use mathlib.Core.List.{List}
@@ -15,8 +16,6 @@ use Rattle.meaning.specs.Judging.Visits.{Arrival}
 use Rattle.meaning.proofs.Test.{neither}
 use Rattle.buffer.specs.Buffer.{Within}
 use Rattle.state_record.specs.declared.state.State as code
-use Rattle.state_start.specs.declared.form.Formed.{Formed}
-use Rattle.state_start.specs.declared.form.Formed.TheVariants as formed
 use Rattle.state_layout.specs.Layout.{over_arrival}
 use Rattle.step_transition.specs.Moves.{Move}
 use Rattle.step_transition.specs.Moving.{Moving, Leading}
@@ -27,7 +26,6 @@ use Rattle.successor_threadless.specs.Threadless.{threadless_of, itself, threadl
 use Rattle.successor_state.specs.Lead.{Leads, LeadsAt, LeadsFor}
 use Rattle.step_label.specs.declared.step.Step as step
 use Rattle.successor_continuation.specs.declared.names.Rests.{Rests}
-use Rattle.successor_continuation.specs.declared.names.Rests.TheVariants.{At, OverLimit}
 use Rattle.successor_rebuild.proofs.Laws.Formed.{within_kept}
 
 -- The steps of a state stay where nothing is written before its end, and so does the room for what they lead to.
@@ -55,7 +53,7 @@ leading_kept wm wo leading = record {
 }
 
 -- Names, or a limit.
-names_or_limit : {last next : ℕ} → At last next ≡ OverLimit → ⊥
+names_or_limit : {r : Rests} → Some r ≡ None → ⊥
 names_or_limit e = let z : ◌≡◌ {A = ℕ} 0 1 = cc in omega arith
 
 pub record Known (large : Bool) (a b last next : ℕ) : Type 0 where
@@ -63,16 +61,16 @@ pub record Known (large : Bool) (a b last next : ℕ) : Type 0 where
   pub last_is : last ≡ a
   pub next_is : next ≡ b
 
-known : (large : Bool) (a b : ℕ) {last next : ℕ} → At last next ≡ rests_of large a b → Known large a b last next
+known : (large : Bool) (a b : ℕ) {r : Rests} → Some r ≡ rests_of large a b → Known large a b r.last r.next
 known true a b e = absurd (names_or_limit e)
 known false a b e = record { small = refl; last_is = cc; next_is = cc }
 
-over : (large : Bool) (a b : ℕ) → OverLimit ≡ rests_of large a b → large ≡ true
+over : (large : Bool) (a b : ℕ) → None ≡ rests_of large a b → large ≡ true
 over true a b e = refl
 over false a b e = absurd (names_or_limit (sym e))
 
-module _ {s : List ℕ} {st : code.State} {v : step.Step} {message m out : List ℕ} {c : Rests} (settles : Settles s st v message m out c) where
-  pub leads_over : {after : List ℕ} → c ≡ OverLimit → Leads s st v message m out formed.OverLimit after
+module _ {s : List ℕ} {st : code.State} {v : step.Step} {message m out : List ℕ} {c : Option Rests} (settles : Settles s st v message m out c) where
+  pub leads_over : {after : List ℕ} → c ≡ None → Leads s st v message m out None after
   leads_over e = record {
     exact = λ S h x w moving leading.
         let o = outcome h.at.placed S.next x w in
@@ -83,8 +81,8 @@ module _ {s : List ℕ} {st : code.State} {v : step.Step} {message m out : List 
       or_first : (a b : Bool) → a ≡ true → (a || b) ≡ true
       or_first a b e = rw e
 
-  pub leads_on : {m₁ after : List ℕ} {f : Formed} {last next low high : ℕ} → c ≡ At last next → Within low high m m₁
-      → LeadsAt s st v last next message m₁ out f after → Leads s st v message m out f after
+  pub leads_on : {m₁ after : List ℕ} {f : Option code.State} {r : Rests} {low high : ℕ} → c ≡ Some r → Within low high m m₁
+      → LeadsAt s st v r.last r.next message m₁ out f after → Leads s st v message m out f after
   leads_on e wm leads = record {
     exact = λ S h x w moving leading.
         let o = outcome h.at.placed S.next x w in
@@ -113,7 +111,7 @@ threadless_free A e =
     rw (small, made, light)
 
 -- For those that look at the threads, and for others.
-module _ {s : List ℕ} {st : code.State} {v : step.Step} {message m out : List ℕ} {f : Formed} where
+module _ {s : List ℕ} {st : code.State} {v : step.Step} {message m out : List ℕ} {f : Option code.State} where
   pub leads_whole : {stepless : Bool} {after : List ℕ} → Leads s st v message m out f after → LeadsFor stepless s st v message m out f after
   leads_whole leads = record {
     exact = λ S h x w moving leading.
@@ -131,8 +129,8 @@ module _ {s : List ℕ} {st : code.State} {v : step.Step} {message m out : List 
     );
   }
 
-  pub leads_threadless : {after : List ℕ} {b : code.State} {stepless : Bool} → FormsThreadless s st v message m out f after → f ≡ formed.At b → stepless ≡ true
-      → LeadsFor stepless s st v message m out (formed.At b) after
+  pub leads_threadless : {after : List ℕ} {b : code.State} {stepless : Bool} → FormsThreadless s st v message m out f after → f ≡ Some b → stepless ≡ true
+      → LeadsFor stepless s st v message m out (Some b) after
   leads_threadless {after} {b} forms e q = record {
     exact = λ S h x w moving leading.
         let A = arrival_of S (outcome h.at.placed S.next x w) in

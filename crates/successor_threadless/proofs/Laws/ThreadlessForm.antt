@@ -1,5 +1,6 @@
 -- There is room for what follows the threads that act, so the state is within its limits; without its threads it is formed ("Judging and its
 -- count").
+use Rattle.std.specs.Prelude.{Option, Some, None}
 use mathlib.Core.Path.{◌≡◌, refl, sym, ap, ◌∙◌}
 use mathlib.Core.Bool.{Bool, true, false, not, true≢false}
 use mathlib.Core.List.{List, [], ◌++◌}
@@ -21,8 +22,6 @@ use Rattle.state_progress.specs.declared.progress.Progress.{Progress}
 use Rattle.state_head.specs.Settled.{threads_of}
 use Rattle.state_start.specs.Form.{state_of, Finishes}
 use Rattle.state_layout.specs.Layout.{StateAt, over_arrival}
-use Rattle.state_start.specs.declared.form.Formed.{Formed}
-use Rattle.state_start.specs.declared.form.Formed.TheVariants.{At, OverLimit}
 use Rattle.step_located.specs.Rebuilt.{nodes_of}
 use Rattle.step_located.proofs.Laws.Copies.{split_at}
 use Rattle.step_located.proofs.Laws.Growth.{more_nodes}
@@ -123,10 +122,10 @@ module _ {s out : List ℕ} {st : code.State} {v : step.Step} {message : List �
 
 -- So it is formed without its threads, or left open.
 module _ {s message m out after : List ℕ} {st : code.State} {v : step.Step} where
-  pub forms_not : FormsThreadless s st v message m out OverLimit after
+  pub forms_not : FormsThreadless s st v message m out None after
   forms_not = record { exact = λ S h x w moving leading bare e. absurd (let z : ◌≡◌ {A = ℕ} 0 1 = cc in omega arith) }
 
-  pub forms_threadless : {mid : List ℕ} {ok q : Bool} {added : Excess} {rests b : Progress} {f : Formed} {high : ℕ} → Adds s st v out added
+  pub forms_threadless : {mid : List ℕ} {ok q : Bool} {added : Excess} {rests b : Progress} {f : Option code.State} {high : ℕ} → Adds s st v out added
       → added.threads ≤ 32 → Settles s st v message m out rests mid → Fits st added rests (length message) ok → ok ≡ true → Within st.end high out mid
       → Carries st message q rests.names mid b after → q ≡ sends v.label → Finishes b f → FormsThreadless s st v message m out f after
   unfolding thread_nodes within_kept
@@ -165,7 +164,7 @@ module _ {s message m out after : List ℕ} {st : code.State} {v : step.Step} wh
         (free, rw state stands, rw state begun.aliases);
   }
     where
-      of_at : {a c : code.State} → At a ≡ At c → a ≡ c
+      of_at : {a c : code.State} → Some a ≡ Some c → a ≡ c
       of_at k = cc
 
 pub ruleset threadless_forms = (forms_not, forms_threadless)

@@ -1,4 +1,5 @@
 -- What judging comes to with a budget ("Judging and its count").
+use Rattle.std.specs.Prelude.{Option, Some, None}
 use mathlib.Core.Path.{◌≡◌, refl, sym, ◌∙◌}
 use mathlib.Core.Bool.{Bool, true, false}
 use mathlib.Core.List.{List, [], ◌∷◌}
@@ -9,16 +10,15 @@ use borrow.Author.Tests.{ltb-true, ltb-false, lt-ltb, le-ltb}
 use Rattle.meaning.specs.Bytes.Formula.{Formula}
 use Rattle.meaning.specs.Judging.{Judgement, visit, some_of, judge}
 use Rattle.meaning.specs.Judging.Visits.{Arrival, at, meets}
-use Rattle.truth_body.specs.Judged.{judged_of}
+use Rattle.truth_body.specs.Judged.{done, judged_of}
 use Rattle.truth_body.specs.declared.judged.Judged.{Judged}
-use Rattle.truth_body.specs.declared.judged.Judged.TheVariants.{Done, Spent}
 
 -- The count is over the budget, or it is not.
-pub spent_as : (left : ℕ) (j : Judgement) → left < j.count → Spent ≡ judged_of left j
+pub spent_as : (left : ℕ) (j : Judgement) → left < j.count → None ≡ judged_of left j
 unfolding judged_of
 spent_as left j h = rw (judged_of, lt-ltb left j.count h)
 
-pub done_as : (left : ℕ) {n : ℕ} {t l : Bool} (j : Judgement) → j.count + n ≡ left → t ≡ j.truth → l ≡ j.limited → Done t l n ≡ judged_of left j
+pub done_as : (left : ℕ) {n : ℕ} {t l : Bool} (j : Judgement) → j.count + n ≡ left → t ≡ j.truth → l ≡ j.limited → done t l n ≡ judged_of left j
 unfolding judged_of
 done_as left {n} j e t l =
     let h : j.count ≤ left = omega arith in
@@ -26,27 +26,27 @@ done_as left {n} j e t l =
     rw (judged_of, le-ltb left j.count h, t, l, more)
 
 -- What an answer says.
-pub record Told (left : ℕ) (j : Judgement) (t l : Bool) (n : ℕ) : Type 0 where
-  pub count : j.count + n ≡ left
-  pub truth : t ≡ j.truth
-  pub limited : l ≡ j.limited
+pub record Told (left : ℕ) (j : Judgement) (d : Judged) : Type 0 where
+  pub count : j.count + d.left ≡ left
+  pub truth : d.truth ≡ j.truth
+  pub limited : d.limited ≡ j.limited
 
-pub told_done : (left : ℕ) {n : ℕ} {t l : Bool} {r : Judged} (j : Judgement) → r ≡ judged_of left j → r ≡ Done t l n → Told left j t l n
+pub told_done : (left : ℕ) {r : Option Judged} {d : Judged} (j : Judgement) → r ≡ judged_of left j → r ≡ Some d → Told left j d
 unfolding judged_of
-told_done left {n} {t} {l} {r} j e d = of (ltb left j.count) refl
+told_done left {r} {d} j e f = of (ltb left j.count) refl
   where
-    of : (b : Bool) → ltb left j.count ≡ b → Told left j t l n
-    of true f = absurd (let s : Done t l n ≡ Spent = sym d ∙ e ∙ sym (spent_as left j (ltb-true left j.count f)) in let z : ◌≡◌ {A = ℕ} 0 1 = cc in omega arith)
-    of false f =
-        let h : j.count ≤ left = ltb-false left j.count f in
-        let s : Done t l n ≡ Done j.truth j.limited (left - j.count) = sym d ∙ e ∙ sym (done_as left j (omega arith) refl refl) in
-        let more : n ≡ left - j.count = cc in
-        record { count = omega arith; truth = cc; limited = cc }
+    of : (b : Bool) → ltb left j.count ≡ b → Told left j d
+    of true g = absurd (let s : Some d ≡ None = sym f ∙ e ∙ sym (spent_as left j (ltb-true left j.count g)) in let z : ◌≡◌ {A = ℕ} 0 1 = cc in omega arith)
+    of false g =
+        let h : j.count ≤ left = ltb-false left j.count g in
+        let s : Some d ≡ done j.truth j.limited (left - j.count) = sym f ∙ e ∙ sym (done_as left j (omega arith) refl refl) in
+        let same : d ≡ record { truth = j.truth; limited = j.limited; left = left - j.count } = cc in
+        rw same (record { count = omega arith; truth = refl; limited = refl })
 
-pub told_judgement : {left n : ℕ} {t l : Bool} (j : Judgement) → Told left j t l n → j ≡ record { truth = t; count = left - n; limited = l }
-told_judgement {left} {n} j w = let count : left - n ≡ j.count = omega (arith, w.count) in rw (w.truth, count, w.limited)
+pub told_judgement : {left : ℕ} {d : Judged} (j : Judgement) → Told left j d → j ≡ record { truth = d.truth; count = left - d.left; limited = d.limited }
+told_judgement {left} {d} j w = let count : left - d.left ≡ j.count = omega (arith, w.count) in rw (w.truth, count, w.limited)
 
-pub told_spent : (left : ℕ) {r : Judged} (j : Judgement) → r ≡ judged_of left j → r ≡ Spent → left < j.count
+pub told_spent : (left : ℕ) {r : Option Judged} (j : Judgement) → r ≡ judged_of left j → r ≡ None → left < j.count
 unfolding judged_of
 told_spent left {r} j e d = of (ltb left j.count) refl
   where
@@ -54,7 +54,7 @@ told_spent left {r} j e d = of (ltb left j.count) refl
     of true f = ltb-true left j.count f
     of false f =
         let h : j.count ≤ left = ltb-false left j.count f in
-        let s : Spent ≡ Done j.truth j.limited (left - j.count) = sym d ∙ e ∙ sym (done_as left j (omega arith) refl refl) in
+        let s : None ≡ done j.truth j.limited (left - j.count) = sym d ∙ e ∙ sym (done_as left j (omega arith) refl refl) in
         absurd (let z : ◌≡◌ {A = ℕ} 0 1 = cc in omega arith)
 
 -- Budget and count may both be larger by as much.

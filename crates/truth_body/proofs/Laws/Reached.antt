@@ -1,4 +1,5 @@
 -- A state that was formed is one that judging may go on with, and what stands before it stays ("Judging and its count").
+use Rattle.std.specs.Prelude.{Option, Some, None}
 use mathlib.Core.Path.{◌≡◌, refl, sym, subst}
 use mathlib.Core.Bool.{Bool, true, false}
 use mathlib.Core.List.{List}
@@ -12,42 +13,40 @@ use Rattle.message_term.specs.Bound.{BoundAt}
 use Rattle.state_record.specs.declared.state.State as code
 use Rattle.state_start.specs.Form.{Forms}
 use Rattle.state_layout.specs.Layout.{StateAt, over_arrival}
-use Rattle.state_start.specs.declared.form.Formed.{Formed}
-use Rattle.state_start.specs.declared.form.Formed.TheVariants.{At, OverLimit}
 use Rattle.step_transition.specs.WithinLimits.{WithinLimits}
 use Rattle.step_transition.proofs.Laws.Capacity.{state_size}
 use Rattle.successor_rebuild.proofs.Laws.Formed.{within_kept}
 use Rattle.truth_body.specs.Reached.{JudgingRoom, Here, Reached, Unchanged}
 
 -- What is formed from a position on ends behind it.
-abbrev pub Above : ℕ → Formed → Type 0
-Above begin (At st) = begin ≤ st.end
-Above begin OverLimit = Unit {0}
+abbrev pub Above : ℕ → Option code.State → Type 0
+Above begin (Some st) = begin ≤ st.end
+Above begin None = Unit {0}
 
-module _ {s out : List ℕ} {begin : ℕ} {A : Arrival} {r : Formed} (formed : Forms s begin A r out)
+module _ {s out : List ℕ} {begin : ℕ} {A : Arrival} {r : Option code.State} (formed : Forms s begin A r out)
     (holds : over_arrival A ≡ false → (st : code.State) → StateAt s out st A.state → WithinLimits s out st A.state)
     (steps : ℕ) (early : begin + 2976 * (steps + 1) ≤ 50592) (few : length A.state.aliases + steps ≤ 16) where
   pub reached : Reached s out r A steps × Above begin r
   reached = of (over_arrival A) refl
     where
       of : (b : Bool) → over_arrival A ≡ b → Reached s out r A steps × Above begin r
-      of true e = subst (λ (f : Formed). Reached s out f A steps × Above begin f) (sym (formed.none e)) (e, tt)
+      of true e = subst (λ (f : Option code.State). Reached s out f A steps × Above begin f) (sym (formed.none e)) (e, tt)
       of false e =
           let (st, same, at, aliases) = formed.some e in
           let within = holds e st at in
           let here : Here s out st A steps =
           record { free = e; within = within; early = omega (arith, state_size within, aliases); few = few } in
           let above : begin ≤ st.end = omega (arith, at.aliases.stands.size, at.records.size, aliases) in
-          subst (λ (f : Formed). Reached s out f A steps × Above begin f) (sym same) (here, above)
+          subst (λ (f : Option code.State). Reached s out f A steps × Above begin f) (sym same) (here, above)
 
 -- What is before a state stays where a later one is visited.
-pub kept_below : {out after : List ℕ} {begin : ℕ} (r : Formed) → Above begin r → begin ≤ length out → Unchanged r out after → Within begin (length out) out after
-kept_below (At st) above h w = wider w above (omega arith)
-kept_below OverLimit above h w = wider w h (omega arith)
+pub kept_below : {out after : List ℕ} {begin : ℕ} (r : Option code.State) → Above begin r → begin ≤ length out → Unchanged r out after → Within begin (length out) out after
+kept_below (Some st) above h w = wider w above (omega arith)
+kept_below None above h w = wider w h (omega arith)
 
-pub kept_same : (formed : Formed) (out : List ℕ) → Unchanged formed out out
-kept_same (At st) out = unchanged
-kept_same OverLimit out = unchanged
+pub kept_same : (formed : Option code.State) (out : List ℕ) → Unchanged formed out out
+kept_same (Some st) out = unchanged
+kept_same None out = unchanged
 
 -- A state and its room stay.
 unfoldable pub here_kept : {s out out₁ : List ℕ} {st : code.State} {A : Arrival} {steps high : ℕ} → Within st.end high out out₁

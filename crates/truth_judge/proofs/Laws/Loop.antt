@@ -1,11 +1,13 @@
 -- All turns of a step formula ("Judging and its count").
+use Rattle.std.specs.Prelude.{Option}
+use Rattle.std.specs.declared.ops.ControlFlow.{ControlFlow}
+use Rattle.std.specs.declared.ops.ControlFlow.TheVariants.{Continue, Break}
 use mathlib.Core.Path.{◌≡◌, refl, sym, ap, subst, ◌∙◌}
 use mathlib.Core.Bool.{Bool, true, false}
 use mathlib.Core.List.{List}
-use Prim.Native.Nat.{ℕ, ◌+◌, ◌-◌, ◌≤◌, ◌<◌}
+use Prim.Native.Nat.{ℕ, ◌+◌, ◌≤◌, ◌<◌}
 use native.Mathlib.Omega.{arith}
 use lib.ListN.{length}
-use Rattle.meaning.specs.Bytes.Formula.{Label}
 use Rattle.meaning.specs.Bytes.Nesting.{step_depth}
 use Rattle.meaning.specs.Judging.{some_of}
 use Rattle.buffer.specs.Buffer.{Within}
@@ -27,10 +29,8 @@ use Rattle.truth_body.specs.Memo.{beginning}
 use Rattle.truth_judge.specs.Visit.{Comes}
 use Rattle.truth_judge.specs.Steps.{Asked, moves_at, judgements_at, memo_holds_at, to_come, FurtherStep, TurnTo, Turns, Falls, AllTurns, AllSteps}
 use Rattle.truth_body.specs.declared.judged.Judged.{Judged}
-use Rattle.truth_body.specs.declared.judged.Sum.{Sum}
 use Rattle.truth_body.specs.declared.memo.Memo.{Memo}
 use Rattle.truth_judge.specs.declared.turn.Turn.{Turn}
-use Rattle.truth_judge.specs.declared.turn.Turn.TheVariants.{On, End}
 use Rattle.truth_body.proofs.Laws.Memo.{begins}
 use Rattle.truth_body.proofs.Laws.Reached.{here_kept, room_kept}
 
@@ -54,12 +54,12 @@ asked_kept e w q = record {
 }
 
 -- Nothing has come yet.
-abbrev pub fresh : ℕ → Sum
+abbrev pub fresh : ℕ → Judged
 fresh left = record { truth = false; limited = false; left = left }
 
 -- Behind a step, with what has come so far and what is known of the body: what is still to come makes up the whole.
 pub record Looping (stepless : Bool) (first : Memo) (s f : List ℕ) (body depth : ℕ) (st : code.State) (l : step_label.Label)
-    (channel taken m₀ out₀ : List ℕ) (left : ℕ) (m out buffered message : List ℕ) (from : step.Step) (sum : Sum) (memo : Memo) : Type 0 where
+    (channel taken m₀ out₀ : List ℕ) (left : ℕ) (m out buffered message : List ℕ) (from : step.Step) (sum : Judged) (memo : Memo) : Type 0 where
   pub long : length m ≡ length m₀
   pub longer : length out ≡ length out₀
   pub holds : length buffered ≡ 510
@@ -93,7 +93,8 @@ module _ {stepless : Bool} {first : Memo} {s f channel taken m₀ out₀ : List 
     );
   }
 
-  module _ {l : step_label.Label} {m out buffered message after on said : List ℕ} {from : step.Step} {sum : Sum} {memo : Memo} {r : Turn}
+  module _ {l : step_label.Label} {m out buffered message after on said : List ℕ} {from : step.Step} {sum : Judged} {memo : Memo}
+      {r : ControlFlow (Option Judged) Turn}
       (looping : Looping stepless first s f body depth st l channel taken m₀ out₀ left m out buffered message from sum memo)
       (turns : Turns stepless memo s f body depth st from channel taken m out buffered message sum r after on said) where
     -- The turn, for the label of the formula.
@@ -115,32 +116,33 @@ module _ {stepless : Bool} {first : Memo} {s f channel taken m₀ out₀ : List 
     after_turn q plain sound =
         let (ahead, kept) = looping.exact q plain sound in
         let (to, later) = turned l ahead.label (asked_kept looping.long kept q) ahead.others plain ahead.holding ahead.resuming in (
-          subst (λ (x : Judged). TurnTo l st.start (moves_at q) (judgements_at q) (memo_holds_at q) x on said r) ahead.same to,
+          subst (λ (x : Option Judged). TurnTo l st.start (moves_at q) (judgements_at q) (memo_holds_at q) x on said r) ahead.same to,
           one_after kept later (omega arith) (omega arith) (omega arith) (omega (arith, looping.longer)),
         )
 
-    pub looping_on : {m₁ : List ℕ} {v : step.Step} {more : Sum} {memo₁ : Memo} → r ≡ On v more memo₁ → length m₁ ≡ length m → length after ≡ length out
+    pub looping_on : {m₁ : List ℕ} {t : Turn} → r ≡ Continue t → length m₁ ≡ length m → length after ≡ length out
         → length on ≡ length buffered → length said ≡ length message → Falls sum.left r
-        → Looping stepless first s f body depth st l channel taken m₀ out₀ left m₁ after on said v more memo₁
-    looping_on {v = v} {more = more} {memo₁ = memo₁} e lm lo lh ls falls = record {
+        → Looping stepless first s f body depth st l channel taken m₀ out₀ left m₁ after on said t.found t.sum t.memo
+    looping_on {t = t} e lm lo lh ls falls = record {
       long = lm ∙ looping.long;
       longer = lo ∙ looping.longer;
       holds = lh ∙ looping.holds;
       carries = ls ∙ looping.carries;
-      less = omega (arith, falls.goes v more memo₁ e, looping.less);
-      exact = λ q plain sound. let (to, kept) = after_turn q plain sound in (to.goes v more memo₁ e, kept);
+      less = omega (arith, falls.goes t e, looping.less);
+      exact = λ q plain sound. let (to, kept) = after_turn q plain sound in (to.goes t e, kept);
     }
 
-    pub looping_less : {j : Judged} → r ≡ End j → Falls sum.left r → Less (left + 1) j
+    pub looping_less : {j : Option Judged} → r ≡ Break j → Falls sum.left r → Less (left + 1) j
     looping_less {j} e falls = record {
-      there = λ t l n d. omega (arith, falls.ends t l n (e ∙ ap End d), looping.less);
+      there = λ k d. omega (arith, falls.ends k (e ∙ ap Break d), looping.less);
     }
 
 -- The label is that of the head.
 pub looping_ends : {stepless : Bool} {first memo : Memo} {s f channel taken m₀ out₀ m out buffered message after on said : List ℕ} {head : head.Head}
-    {depth left : ℕ} {st : code.State} {origin from : step.Step} {sum : Sum} {r : Turn} {j : Judged} → origin ≡ before head.label st.start
+    {depth left : ℕ} {st : code.State} {origin from : step.Step} {sum : Judged} {r : ControlFlow (Option Judged) Turn}
+    {j : Option Judged} → origin ≡ before head.label st.start
     → Looping stepless first s f head.body depth st origin.label channel taken m₀ out₀ left m out buffered message from sum memo
-    → Turns stepless memo s f head.body depth st from channel taken m out buffered message sum r after on said → r ≡ End j
+    → Turns stepless memo s f head.body depth st from channel taken m out buffered message sum r after on said → r ≡ Break j
     → AllTurns stepless first s f head depth st channel taken m₀ out₀ left j after
 unfolding to_come
 looping_ends {stepless} {first} {memo} {s} {f} {channel} {taken} {m₀} {out₀} {after = after} {head = head} {depth} {left} {st} {origin = origin} {j = j} b looping
@@ -153,7 +155,7 @@ looping_ends {stepless} {first} {memo} {s} {f} {channel} {taken} {m₀} {out₀}
 
 -- What is known of the body before them.
 pub steps_memo : {stepless : Bool} {memo : Memo} {s f channel taken m out after : List ℕ} {head : head.Head} {depth left : ℕ}
-    {st : code.State} {j : Judged} → Stepless f head.body stepless → memo ≡ beginning head.label stepless
+    {st : code.State} {j : Option Judged} → Stepless f head.body stepless → memo ≡ beginning head.label stepless
     → AllTurns stepless memo s f head depth st channel taken m out left j after → AllSteps s f head depth st channel taken m out left j after
 steps_memo {stepless} {memo} told begun turns = record {
   exact = λ q.
@@ -164,7 +166,7 @@ steps_memo {stepless} {memo} told begun turns = record {
 }
 
 -- What is left of the budget falls.
-pub looping_falls : {left : ℕ} {r : Turn} {v : step.Step} {more : Sum} {memo : Memo} → Falls left r → r ≡ On v more memo → more.left < left
-looping_falls {v = v} {more = more} {memo = memo} falls e = falls.goes v more memo e
+pub looping_falls : {left : ℕ} {r : ControlFlow (Option Judged) Turn} {t : Turn} → Falls left r → r ≡ Continue t → t.sum.left < left
+looping_falls {t = t} falls e = falls.goes t e
 
 pub ruleset loopings = (looping_starts, looping_on, looping_less, looping_ends)

@@ -1,4 +1,5 @@
 -- A step formula: its label, and then its steps ("Judging and its count").
+use Rattle.std.specs.Prelude.{Option, Some, None}
 use mathlib.Core.Path.{◌≡◌, refl, sym, ap, subst, ◌∙◌}
 use mathlib.Core.Bool.{Bool, true, false}
 use mathlib.Core.List.{List}
@@ -12,38 +13,34 @@ use Rattle.meaning.specs.Judging.Visits.{Arrival}
 use Rattle.buffer.specs.Buffer.{Within}
 use Rattle.buffer.proofs.Laws.Buffer.{one_after, wider}
 use Rattle.state_record.specs.declared.state.State as code
-use Rattle.step_transition.specs.Behind.{moves_of, all}
-use Rattle.step_label.specs.declared.step.Step as step
+use Rattle.step_transition.specs.Behind.{moves_of}
 use Rattle.successor_rebuild.proofs.Laws.Formed.{within_kept}
 use Rattle.truth_label.specs.Head.{label_of_step, channel_of, taken_of, head_of, headed_of, Heads, Short}
 use Rattle.truth_label.specs.declared.head.Head as head
-use Rattle.truth_label.specs.declared.head.Headed.{Headed}
-use Rattle.truth_label.specs.declared.head.Headed.TheVariants.{By, TooLarge}
-use Rattle.truth_body.specs.Judged.{judged_of}
+use Rattle.truth_body.specs.Judged.{at_limit, judged_of}
 use Rattle.truth_body.specs.Reached.{Here}
 use Rattle.truth_judge.specs.Steps.{Stepped, Asked, judgements, AllSteps}
 use Rattle.truth_body.specs.declared.judged.Judged.{Judged}
-use Rattle.truth_body.specs.declared.judged.Judged.TheVariants.{Done}
 use Rattle.truth_body.proofs.Laws.Budget.{done_as}
 use Rattle.truth_body.proofs.Laws.Meets.{limit, judge_step}
 use Rattle.truth_judge.proofs.Laws.Arrivals.{judged_by}
 use Rattle.truth_body.proofs.Laws.Reached.{here_kept, room_kept, bound_here}
 
 -- The label of a step formula is too large, or its steps are judged.
-said_large : (b : Bool) (h : head.Head) {r : Headed} → r ≡ headed_of b h → r ≡ TooLarge → b ≡ true
+said_large : (b : Bool) (h : head.Head) {r : Option head.Head} → r ≡ headed_of b h → r ≡ None → b ≡ true
 unfolding headed_of
 said_large true h e d = refl
 said_large false h e d = absurd (let z : ◌≡◌ {A = ℕ} 0 1 = cc in omega arith)
 
-said_head : (b : Bool) (h : head.Head) {g : head.Head} {r : Headed} → r ≡ headed_of b h → r ≡ By g → (b ≡ false) × (g ≡ h)
+said_head : (b : Bool) (h : head.Head) {g : head.Head} {r : Option head.Head} → r ≡ headed_of b h → r ≡ Some g → (b ≡ false) × (g ≡ h)
 unfolding headed_of
 said_head true h e d = absurd (let z : ◌≡◌ {A = ℕ} 0 1 = cc in omega arith)
 said_head false h e d = (refl, cc)
 
-module _ {s f m out out₁ channel taken : List ℕ} {kind at : ℕ} {st : code.State} {r : Headed}
+module _ {s f m out out₁ channel taken : List ℕ} {kind at : ℕ} {st : code.State} {r : Option head.Head}
     (heads : Heads f kind at st.aliases st.end out r channel taken)
     (within : Within st.end (st.end + 4096) out out₁) where
-  pub stepped_large : (depth left : ℕ) → r ≡ TooLarge → Stepped s f kind at depth st m out left (Done false true left) out₁
+  pub stepped_large : (depth left : ℕ) → r ≡ None → Stepped s f kind at depth st m out left (Some (at_limit left)) out₁
   stepped_large depth left e = record {
     exact = λ a F A {steps} {body} k label stands here room.
         let to = heads.exact a A.state.aliases k label (bound_here here) in
@@ -54,7 +51,7 @@ module _ {s f m out out₁ channel taken : List ℕ} {kind at : ℕ} {st : code.
         };
   }
 
-  pub stepped_all : {depth left : ℕ} {h : head.Head} {j : Judged} {after : List ℕ} → r ≡ By h
+  pub stepped_all : {depth left : ℕ} {h : head.Head} {j : Option Judged} {after : List ℕ} → r ≡ Some h
       → AllSteps s f h depth st (take (h.channel - 0) (drop 0 channel)) (take (h.taken - 0) (drop 0 taken)) m out₁ left j after
       → Stepped s f kind at depth st m out left j after
   unfolding head_of here_kept within_kept
@@ -100,7 +97,7 @@ module _ {s f m out out₁ channel taken : List ℕ} {kind at : ℕ} {st : code.
 pub ruleset steppings = (stepped_large, stepped_all)
 
 -- The messages of a head are within their slices.
-module _ {r : Headed} {h : head.Head} {n : ℕ} (short : Short r) (e : r ≡ By h) (long : n ≡ 510) where
+module _ {r : Option head.Head} {h : head.Head} {n : ℕ} (short : Short r) (e : r ≡ Some h) (long : n ≡ 510) where
   pub channel_within : h.channel ≤ n
   channel_within = let (low, high) = short.there h e in omega arith
 

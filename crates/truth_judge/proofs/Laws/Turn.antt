@@ -1,4 +1,7 @@
 -- One turn of a step formula: the next step, and its body judged where that leads ("Judging and its count").
+use Rattle.std.specs.Prelude.{Option, Some, None}
+use Rattle.std.specs.declared.ops.ControlFlow.{ControlFlow}
+use Rattle.std.specs.declared.ops.ControlFlow.TheVariants.{Break}
 use mathlib.Core.Path.{◌≡◌, refl, sym, ap, subst, ◌∙◌}
 use mathlib.Core.Bool.{Bool, true, false, ◌||◌}
 use mathlib.Core.List.{List, [], ◌∷◌, ◌++◌}
@@ -25,7 +28,6 @@ use Rattle.message_term.proofs.Theorems.{bound_length}
 use Rattle.state_record.specs.declared.state.State as code
 use Rattle.state_layout.specs.Layout.{StateAt, over_arrival}
 use Rattle.state_layout.specs.Loaded.{IsRunOf}
-use Rattle.state_start.specs.declared.form.Formed.{Formed}
 use Rattle.step_located.proofs.Laws.Everywhere.{every_first}
 use Rattle.step_transition.specs.Moves.{Move}
 use Rattle.step_transition.specs.Outcome.{Outcome, outcome, arrival_of}
@@ -47,18 +49,14 @@ use Rattle.truth_label.specs.Head.{label_of_step, channel_of, taken_of}
 use Rattle.step_between.specs.Buffered.{Resuming}
 use Rattle.successor_next.specs.Arrive.{Taken, ArrivedAt, Arrives}
 use Rattle.successor_next.specs.declared.arrive.Arrived.{Arrived}
-use Rattle.successor_next.specs.declared.arrive.Arrived.TheVariants.{By, None}
 use Rattle.successor_next.proofs.Laws.Sending.{added}
 use Rattle.successor_next.proofs.Laws.Arrive.{listed, sending}
 use Rattle.truth_body.specs.Judged.{judged_of}
 use Rattle.truth_body.specs.Memo.{memoised}
 use Rattle.truth_judge.specs.Steps.{Asked, moves_at, judgements_at, memo_holds_at, to_come, TurnTo, turn_of, JudgesBody, Counts, Turns}
 use Rattle.truth_body.specs.declared.judged.Judged.{Judged}
-use Rattle.truth_body.specs.declared.judged.Judged.TheVariants.{Done, Spent}
-use Rattle.truth_body.specs.declared.judged.Sum.{Sum}
 use Rattle.truth_body.specs.declared.memo.Memo.{Memo}
 use Rattle.truth_judge.specs.declared.turn.Turn.{Turn}
-use Rattle.truth_judge.specs.declared.turn.Turn.TheVariants.{End}
 use Rattle.truth_judge.proofs.Laws.Parts.{none_to_come, spent_to_come, more_to_come}
 use Rattle.truth_body.proofs.Laws.Memo.{memoises}
 use Rattle.truth_body.proofs.Laws.Stepless.{stepless_judge}
@@ -140,13 +138,13 @@ module _ {s out out₁ : List ℕ} {st : code.State} {S : State} (h : WithinLimi
   }
 
 -- The body judged at the state that a move leads to.
-module _ {s f channel taken m m₁ out out₁ after : List ℕ} {body depth : ℕ} {st : code.State} {l : step_label.Label} {left high : ℕ} {g : Formed} {j : Judged}
-    {stepless : Bool} (wm : Within 0 high m m₁) (wo : Within st.end (length out) out out₁)
+module _ {s f channel taken m m₁ out out₁ after : List ℕ} {body depth : ℕ} {st : code.State} {l : step_label.Label} {left high : ℕ} {g : Option code.State}
+    {j : Option Judged} {stepless : Bool} (wm : Within 0 high m m₁) (wo : Within st.end (length out) out out₁)
     {memo : Memo} (judges : JudgesBody memo s f body depth g m₁ out₁ left j after) (q : Asked s f body depth st l channel taken m out)
     (plain : stepless ≡ true → step_depth q.formula ≡ 0) (sound : memo_holds_at q memo) where
   visited : (earlier others : List Move) (w : Move) → moves_at q ≡ earlier ++ (w ∷ others) → FormsFor stepless s st.end (led q w) g out₁
       → (j ≡ judged_of left (judge q.formula (led q w))) × Within st.end (length out) out after
-      × ((t l : Bool) (n : ℕ) → j ≡ Done t l n → memo_holds_at q (memoised memo g t l (left - n)))
+      × ((d : Judged) → j ≡ Some d → memo_holds_at q (memoised memo g d.truth d.limited (left - d.left)))
   visited earlier others w e (B, stands-for, forms) =
       let h = q.here.within in
       let o = outcome h.at.placed (here q).next (takes q) w in
@@ -168,7 +166,7 @@ module _ {s f channel taken m m₁ out out₁ after : List ℕ} {body depth : �
       let later = kept_below g above (omega (arith, wo.long, h.at.records.size, q.here.early, q.room.long)) kept in (
         answer ∙ ap (judged_of left) served.judged,
         one_after wo later (omega arith) (omega arith) (omega arith) (omega (arith, wo.long)),
-        λ t l n done. memoises q.formula q.label (here q).aliases left B o.alias alias served.aliases (sym done ∙ answer) s out₁ q.steps memo g there sound,
+        λ d e. memoises q.formula q.label (here q).aliases left B o.alias alias served.aliases (sym e ∙ answer) s out₁ q.steps memo g there sound,
       )
     where
       bound : (a : Label) → binds_label a ≤ 1
@@ -177,7 +175,7 @@ module _ {s f channel taken m m₁ out out₁ after : List ℕ} {body depth : �
       bound Label.silent = omega arith
 
 -- What a turn comes to.
-module _ {stepless : Bool} {s channel taken m out out₁ buffered message on said : List ℕ} {st : code.State} {from : step.Step} {r : Arrived}
+module _ {stepless : Bool} {s channel taken m out out₁ buffered message on said : List ℕ} {st : code.State} {from : step.Step} {r : Option Arrived}
     (arrives : Arrives stepless s channel taken st from m out buffered message r out₁ on said) (wo : Within st.end (length out) out out₁) where
   found : {f : List ℕ} {body depth : ℕ} (q : Asked s f body depth st from.label channel taken m out) {others : List Move}
       → 510 ≤ length buffered → 510 ≤ length message → Resuming from.label st.start (moves_at q) buffered message from others
@@ -185,34 +183,34 @@ module _ {stepless : Bool} {s channel taken m out out₁ buffered message on sai
   found q wide long b =
       arrives.exact (here q) (channel_of (here q).aliases q.label) (takes q) q.here.within q.channelled (taking q) (leading q) wide long b
 
-  pub turn_none : (memo : Memo) (f : List ℕ) (body depth : ℕ) (sum : Sum) → r ≡ None
-      → Turns stepless memo s f body depth st from channel taken m out buffered message sum (End (Done sum.truth sum.limited sum.left))
+  pub turn_none : (memo : Memo) (f : List ℕ) (body depth : ℕ) (sum : Judged) → r ≡ None
+      → Turns stepless memo s f body depth st from channel taken m out buffered message sum (Break (Some sum))
       out₁ on said
   turn_none memo f body depth sum e = record { exact = λ q z sound {others} wide long b. (of q others (found q wide long b), wo) }
     where
       of : (q : Asked s f body depth st from.label channel taken m out) (others : List Move)
           → ArrivedAt stepless s st (here q) q.here.within.at.placed (takes q) r out₁ on said others
           → TurnTo from.label st.start (moves_at q) (judgements_at q) (memo_holds_at q) (to_come sum (judgements_at q others)) on said
-          (End (Done sum.truth sum.limited sum.left))
+          (Break (Some sum))
       of q [] a = record {
-        ends = λ j d. let same : j ≡ Done sum.truth sum.limited sum.left = cc in same ∙ none_to_come sum;
-        goes = λ v more k d. absurd (let z : ◌≡◌ {A = ℕ} 0 1 = cc in omega arith);
+        ends = λ j d. let same : j ≡ Some sum = cc in same ∙ none_to_come sum;
+        goes = λ t d. absurd (let z : ◌≡◌ {A = ℕ} 0 1 = cc in omega arith);
       }
       of q (w ∷ others) (g, a, forms, kept) = absurd (let z : ◌≡◌ {A = ℕ} 0 1 = cc in omega arith)
 
-  module _ {f m₁ after : List ℕ} {body depth left high : ℕ} {memo : Memo} {v : step.Step} {g : Formed} {j : Judged} (e : r ≡ By v g)
-      (wm : Within 0 high m m₁) (judges : JudgesBody memo s f body depth g m₁ out₁ left j after) where
+  module _ {f m₁ after : List ℕ} {body depth left high : ℕ} {memo : Memo} {y : Arrived} {j : Option Judged} (e : r ≡ Some y)
+      (wm : Within 0 high m m₁) (judges : JudgesBody memo s f body depth y.formed m₁ out₁ left j after) where
     -- The move that was made, what the body came to, and what stays.
     record Made (q : Asked s f body depth st from.label channel taken m out) (others : List Move) : Type 0 where
       move : Move
       behind : List Move
       same : others ≡ move ∷ behind
-      is : v ≡ step_of st.start move
-      label : v.label ≡ from.label
-      after_it : Resuming from.label st.start (moves_at q) on said v behind
+      is : y.step ≡ step_of st.start move
+      label : y.step.label ≡ from.label
+      after_it : Resuming from.label st.start (moves_at q) on said y.step behind
       answer : j ≡ judged_of left (judge q.formula (led q move))
       kept : Within st.end (length out) out after
-      memoising : (t l : Bool) (n : ℕ) → j ≡ Done t l n → memo_holds_at q (memoised memo g t l (left - n))
+      memoising : (d : Judged) → j ≡ Some d → memo_holds_at q (memoised memo y.formed d.truth d.limited (left - d.left))
 
     made : (q : Asked s f body depth st from.label channel taken m out) → (stepless ≡ true → step_depth q.formula ≡ 0)
         → memo_holds_at q memo → {others : List Move}
@@ -223,8 +221,8 @@ module _ {stepless : Bool} {s channel taken m out out₁ buffered message on sai
             → ArrivedAt stepless s st (here q) q.here.within.at.placed (takes q) r out₁ on said others → Made q others
         of [] b a = absurd (let z : ◌≡◌ {A = ℕ} 0 1 = cc in omega arith)
         of (w ∷ others) b (g', a, forms, sent) =
-            let is : v ≡ step_of st.start w = cc in
-            let state : g' ≡ g = cc in
+            let is : y.step ≡ step_of st.start w = cc in
+            let state : g' ≡ y.formed = cc in
             let (earlier, there) = listed b in
             let sends = sending q.here.within from.label (channel_of (here q).aliases q.label) (takes q) earlier others w there in
             let (answer, kept, memoising) = visited wm wo judges q z sound earlier others w there (rw state at forms) in
@@ -242,55 +240,55 @@ module _ {stepless : Bool} {s channel taken m out out₁ buffered message on sai
               memoising = memoising;
             }
 
-  module _ {f m₁ after : List ℕ} {body depth high : ℕ} {memo : Memo} {sum : Sum} {v : step.Step} {g : Formed} (e : r ≡ By v g)
+  module _ {f m₁ after : List ℕ} {body depth high : ℕ} {memo : Memo} {sum : Judged} {y : Arrived} (e : r ≡ Some y)
       (wm : Within 0 high m m₁) where
-    spent : JudgesBody memo s f body depth g m₁ out₁ sum.left Spent after
-        → Turns stepless memo s f body depth st from channel taken m out buffered message sum (End Spent) after on said
+    spent : JudgesBody memo s f body depth y.formed m₁ out₁ sum.left None after
+        → Turns stepless memo s f body depth st from channel taken m out buffered message sum (Break None) after on said
     spent judges = record {
       exact = λ q z sound wide long b.
           let w = made e wm judges q z sound wide long b in
           let total = spent_to_come sum _ (judgements_at q w.behind) w.answer refl in (
             record {
-              ends = λ k x. let same : k ≡ Spent = cc in same ∙ total ∙ ap (λ ws. to_come sum (judgements_at q ws)) (sym w.same);
-              goes = λ u more k x. absurd (let z : ◌≡◌ {A = ℕ} 0 1 = cc in omega arith);
+              ends = λ k x. let same : k ≡ None = cc in same ∙ total ∙ ap (λ ws. to_come sum (judgements_at q ws)) (sym w.same);
+              goes = λ t x. absurd (let z : ◌≡◌ {A = ℕ} 0 1 = cc in omega arith);
             },
             w.kept,
           );
     }
 
-    goes_on : {n : ℕ} {t l : Bool} → JudgesBody memo s f body depth g m₁ out₁ sum.left (Done t l n) after
-        → Turns stepless memo s f body depth st from channel taken m out buffered message sum (turn_of memo g v sum (Done t l n)) after on said
-    goes_on {n} {t} {l} judges = record {
+    goes_on : {d : Judged} → JudgesBody memo s f body depth y.formed m₁ out₁ sum.left (Some d) after
+        → Turns stepless memo s f body depth st from channel taken m out buffered message sum (turn_of memo y.formed y.step sum (Some d)) after on said
+    goes_on {d} judges = record {
       exact = λ q z sound wide long c.
           let w = made e wm judges q z sound wide long c in
           let more = more_to_come sum _ (judgements_at q w.behind) w.answer refl refl refl in
-          let now : Sum = record { truth = sum.truth || t; limited = sum.limited || l; left = n } in (
+          let now : Judged = record { truth = sum.truth || d.truth; limited = sum.limited || d.limited; left = d.left } in (
             record {
               ends = λ k x. absurd (let z : ◌≡◌ {A = ℕ} 0 1 = cc in omega arith);
-              goes = λ u sum' memo' x.
-                  let found_it : v ≡ u = cc in
-                  let sums : now ≡ sum' = cc in
-                  let same-memo : memoised memo g t l (sum.left - n) ≡ memo' = cc in
+              goes = λ t x.
+                  let found_it : y.step ≡ t.found = cc in
+                  let sums : now ≡ t.sum = cc in
+                  let same-memo : memoised memo y.formed d.truth d.limited (sum.left - d.left) ≡ t.memo = cc in
                   record {
                     label = rw found_it at w.label;
                     others = w.behind;
                     resuming =
                         subst (λ (u : step.Step). Resuming from.label st.start (moves_at q) on said u w.behind) found_it w.after_it;
                     same =
-                        ap (λ y. to_come y (judgements_at q w.behind)) (sym sums) ∙ more
+                        ap (λ n. to_come n (judgements_at q w.behind)) (sym sums) ∙ more
                         ∙ ap (λ ws. to_come sum (judgements_at q ws)) (sym w.same);
-                    holding = subst (memo_holds_at q) same-memo (w.memoising t l n refl);
+                    holding = subst (memo_holds_at q) same-memo (w.memoising d refl);
                   };
             },
             w.kept,
           );
     }
 
-    pub turn_by : {t : Turn} → Counts memo s f body depth v g m₁ out₁ sum t after
+    pub turn_by : {t : ControlFlow (Option Judged) Turn} → Counts memo s f body depth y.step y.formed m₁ out₁ sum t after
         → Turns stepless memo s f body depth st from channel taken m out buffered message sum t after on said
     turn_by {t} c = rw c.answer (of c.judged c.judges)
       where
-        of : (j : Judged) → JudgesBody memo s f body depth g m₁ out₁ sum.left j after
-            → Turns stepless memo s f body depth st from channel taken m out buffered message sum (turn_of memo g v sum j) after on said
-        of (Done t l n) judges = goes_on judges
-        of Spent judges = spent judges
+        of : (j : Option Judged) → JudgesBody memo s f body depth y.formed m₁ out₁ sum.left j after
+            → Turns stepless memo s f body depth st from channel taken m out buffered message sum (turn_of memo y.formed y.step sum j) after on said
+        of (Some d) judges = goes_on judges
+        of None judges = spent judges

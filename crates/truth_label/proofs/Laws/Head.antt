@@ -1,4 +1,5 @@
 -- The head of a step formula, from the recipes of its label ("Steps").
+use Rattle.std.specs.Prelude.{Option, Some, None}
 use mathlib.Core.Path.{◌≡◌, refl, ◌∙◌}
 use mathlib.Core.Bool.{false, true≢false}
 use mathlib.Core.List.{List, [], ◌∷◌}
@@ -19,9 +20,8 @@ use Rattle.message_bytes.specs.Encoding.{encode_message}
 use Rattle.buffer.specs.Word.{encode_word}
 use Rattle.buffer.specs.Buffer.{Within}
 use Rattle.message_term.specs.Bound.{BoundAt}
-use Rattle.message_term.specs.Work.{answer_of, end_of, WorkedTo, Reaches}
+use Rattle.message_term.specs.Work.{done, answer_of, end_of, WorkedTo, Reaches}
 use Rattle.message_term.specs.declared.work.Worked.{Worked}
-use Rattle.message_term.specs.declared.work.Worked.TheVariants.{Done, TooLarge}
 use Rattle.state_layout.specs.Loaded.{IsRunOf}
 use Rattle.step_label.specs.declared.step.Label.TheVariants.{Output, Input, Silent}
 use Rattle.truth_label.specs.Place.{kind_of, LabelAt}
@@ -29,8 +29,6 @@ use Rattle.truth_label.specs.Recipe.{Recipes}
 use Rattle.truth_label.specs.Head.{label_of_step, channel_of, head_of, headed_of, HeadTo, Heads, Short}
 use Rattle.truth_label.specs.Inner.{output_head, input_head, Tells, Inputs, Silences}
 use Rattle.truth_label.specs.declared.head.Head as code
-use Rattle.truth_label.specs.declared.head.Headed.{Headed}
-use Rattle.truth_label.specs.declared.head.Headed.TheVariants.{By, TooLarge as Large}
 use Rattle.message_bytes.proofs.Laws.Encoding.{length_encode}
 use Rattle.buffer.proofs.Laws.Buffer.{seen, node_within, node_stands, unchanged, one_after}
 use Rattle.message_term.proofs.Laws.Work.{said_over, said_small, still_bound}
@@ -41,14 +39,14 @@ labelled : {m : List ℕ} {end : ℕ} (x : Message) → Stands m 0 (encode_messa
 labelled x p h n = record { same = seen p; small = rw (seen p) (omega (arith, p.size)); normal = n }
 
 -- That of a recipe.
-module _ {ρ : Bound} {t : Term} {next : ℕ} {r : Worked} {m : List ℕ} (g : WorkedTo ρ t 0 next r m) (h : Reaches 0 8 r) where
+module _ {ρ : Bound} {t : Term} {next : ℕ} {r : Option Worked} {m : List ℕ} (g : WorkedTo ρ t 0 next r m) (h : Reaches 0 8 r) where
   recipe_label : over ρ t ≡ false → IsRunOf (take (length (encode_message (worked ρ t))) m) (worked ρ t)
   unfolding answer_of
   recipe_label small =
-      let done : r ≡ Done next (end_of ρ t 0) = g.answer ∙ rw small in
-      labelled (worked ρ t) (g.run small) (h.there next (end_of ρ t 0) done).1 (normal_forms (written ρ t)).0
+      let said : r ≡ done next (end_of ρ t 0) = g.answer ∙ rw small in
+      labelled (worked ρ t) (g.run small) (h.there (record { next = next; end = end_of ρ t 0 }) said).1 (normal_forms (written ρ t)).0
 
-  recipe_said : {i end : ℕ} → r ≡ Done i end → (over ρ t ≡ false) × (i ≡ next) × (end ≡ length (encode_message (worked ρ t)))
+  recipe_said : {x : Worked} → r ≡ Some x → (over ρ t ≡ false) × (x.next ≡ next) × (x.end ≡ length (encode_message (worked ρ t)))
   recipe_said e =
       let (small, same, ends) = said_small _ _ _ g.answer e in
       (small, same, omega (arith, length_encode (worked ρ t)))
@@ -60,21 +58,21 @@ output_or_input e = let z : ◌≡◌ {A = ℕ} 0 1 = cc in omega arith
 silent_or_input : Silent ≡ Input → ⊥
 silent_or_input e = let z : ◌≡◌ {A = ℕ} 0 1 = cc in omega arith
 
-large_or_by : {h : code.Head} → Large ≡ By h → ⊥
+large_or_by : {h : code.Head} → None ≡ Some h → ⊥
 large_or_by e = let z : ◌≡◌ {A = ℕ} 0 1 = cc in omega arith
 
-pub short_large : Short Large
+pub short_large : Short None
 short_large = record { there = λ h e. absurd (large_or_by e) }
 
-pub short_by : (h : code.Head) → h.channel ≤ 510 → h.taken ≤ 510 → Short (By h)
+pub short_by : (h : code.Head) → h.channel ≤ 510 → h.taken ≤ 510 → Short (Some h)
 short_by h c t = record {
   there = λ g e. let same : h ≡ g = cc in (rw (← same) c, rw (← same) t);
 }
 
 -- One recipe, told by a head.
-module _ {f out : List ℕ} {at base start : ℕ} {r : Worked} {m : List ℕ} (w : Recipes f at base start out r m) (h : Reaches 0 8 r)
+module _ {f out : List ℕ} {at base start : ℕ} {r : Option Worked} {m : List ℕ} (w : Recipes f at base start out r m) (h : Reaches 0 8 r)
     (head : (body size : ℕ) → code.Head) where
-  pub tells_large : r ≡ TooLarge → Tells f at base start out head Large m
+  pub tells_large : r ≡ None → Tells f at base start out head None m
   unfolding headed_of
   tells_large e = record {
     exact = λ t ρ p b.
@@ -82,7 +80,7 @@ module _ {f out : List ℕ} {at base start : ℕ} {r : Worked} {m : List ℕ} (w
         record { answer = rw (said_over _ _ _ g.answer e); run = recipe_label g h };
   }
 
-  pub tells_by : {i end : ℕ} {one : code.Head} → r ≡ Done i end → one ≡ head i end → Tells f at base start out head (By one) m
+  pub tells_by : {x : Worked} {one : code.Head} → r ≡ Some x → one ≡ head x.next x.end → Tells f at base start out head (Some one) m
   unfolding headed_of
   tells_by e same = record {
     exact = λ t ρ p b.
@@ -91,20 +89,20 @@ module _ {f out : List ℕ} {at base start : ℕ} {r : Worked} {m : List ℕ} (w
         record { answer = rw (same, small, next, size); run = recipe_label g h };
   }
 
-pub size_small : {r : Worked} {i end : ℕ} → r ≡ Done i end → Reaches 0 8 r → end ≤ 510
-size_small e h = (h.there _ _ e).1
+pub size_small : {r : Option Worked} {x : Worked} → r ≡ Some x → Reaches 0 8 r → x.end ≤ 510
+size_small e h = (h.there _ e).1
 
 -- A label that is no input takes no message.
-not_input : {ρ : Bound} {a : Label} {body : ℕ} {r : Headed} {channel taken : List ℕ}
+not_input : {ρ : Bound} {a : Label} {body : ℕ} {r : Option code.Head} {channel taken : List ℕ}
     → (label_of_step a ≡ Input → ⊥) → r ≡ headed_of (over_label ρ a) (head_of ρ a body)
     → (over_label ρ a ≡ false → IsRunOf (take (head_of ρ a body).channel channel) (channel_of ρ a))
     → HeadTo ρ a body r channel taken
 not_input n e c = record { answer = e; channelled = c; taking = λ o k. absurd (n k) }
 
 -- An input: its channel, and then its message.
-module _ {f out : List ℕ} {at base start : ℕ} {r : Worked} {channel : List ℕ} (w : Recipes f at base start out r channel)
+module _ {f out : List ℕ} {at base start : ℕ} {r : Option Worked} {channel : List ℕ} (w : Recipes f at base start out r channel)
     (h : Reaches 0 8 r) where
-  pub input_large : {taken : List ℕ} → r ≡ TooLarge → Inputs f at base start out Large channel taken
+  pub input_large : {taken : List ℕ} → r ≡ None → Inputs f at base start out None channel taken
   unfolding headed_of head_of
   input_large e = record {
     exact = λ C M ρ p q b.
@@ -116,8 +114,8 @@ module _ {f out : List ℕ} {at base start : ℕ} {r : Worked} {channel : List �
         };
   }
 
-  pub input_by : {i end : ℕ} {out₁ taken : List ℕ} {a : Headed} → r ≡ Done i end → Within start (start + 4096) out out₁
-      → Tells f i base start out₁ (input_head end) a taken → Inputs f at base start out a channel taken
+  pub input_by : {x : Worked} {out₁ taken : List ℕ} {a : Option code.Head} → r ≡ Some x → Within start (start + 4096) out out₁
+      → Tells f x.next base start out₁ (input_head x.end) a taken → Inputs f at base start out a channel taken
   unfolding headed_of head_of
   input_by e v d = record {
     exact = λ C M ρ p q b.
@@ -144,7 +142,7 @@ module _ (m : List ℕ) {m₁ : List ℕ} (v : m₁ ≡ set (set m 0 (16 % 256))
   unfolding encode_message
   no_channel = node_stands m 0 16 v (omega arith)
 
-  pub silent_by : (at : ℕ) → Silences at (By (record { label = Silent; body = at; channel = 2; taken = 0 })) m₁
+  pub silent_by : (at : ℕ) → Silences at (Some (record { label = Silent; body = at; channel = 2; taken = 0 })) m₁
   unfolding headed_of head_of encode_message encode_word normal
   silent_by at = record {
     exact = λ ρ.
@@ -153,11 +151,11 @@ module _ (m : List ℕ) {m₁ : List ℕ} (v : m₁ ≡ set (set m 0 (16 % 256))
   }
 
 -- The labels by their kinds.
-abbrev Promised : (f : List ℕ) (kind at base start : ℕ) → List ℕ → Headed → (channel taken : List ℕ) → Label → Type 0
+abbrev Promised : (f : List ℕ) (kind at base start : ℕ) → List ℕ → Option code.Head → (channel taken : List ℕ) → Label → Type 0
 Promised f kind at base start out r channel taken a =
     (body : ℕ) (ρ : Bound) → kind ≡ kind_of a → LabelAt f at (length ρ) a body → BoundAt out base ρ start → HeadTo ρ a body r channel taken
 
-module _ {f out channel : List ℕ} {kind at base start : ℕ} {r : Headed} where
+module _ {f out channel : List ℕ} {kind at base start : ℕ} {r : Option code.Head} where
   for_each : {taken : List ℕ} → ((a : Label) → Promised f kind at base start out r channel taken a)
       → Heads f kind at base start out r channel taken
   for_each g = record { exact = λ a {body} ρ k p b. g a body ρ k p b }

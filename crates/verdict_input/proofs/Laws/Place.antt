@@ -11,7 +11,7 @@ use Rattle.meaning.specs.Bytes.Refusal.{Field, Due, start, named, indexed, in_te
 use Rattle.meaning.specs.Bytes.Refusal.{Refusal as RefusedBy, slice_too_long, ended_early, bad_form, unlisted_kind}
 use Rattle.meaning.specs.Bytes.Refusal.{name_over, out_of_scope, too_deep, left_over}
 use Rattle.meaning.proofs.Bytes.Reader.{Only, holds, fails, by_provided, by_test, of_found}
-use Rattle.decode_number.specs.declared.answer.Answer.{Answer}
+use Rattle.decode_number.specs.Answer.{Answer}
 use Rattle.decode_slice.specs.Exact.{Exact}
 use Rattle.verdict_input.specs.Input.{Placed}
 

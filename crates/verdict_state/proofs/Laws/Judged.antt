@@ -1,4 +1,5 @@
 -- Both models judged, by what each judging comes to ("Turned back for the state").
+use Rattle.std.specs.Prelude.{Option, Some, None}
 use mathlib.Core.Path.{◌≡◌}
 use mathlib.Core.Bool.{Bool, true, false, not, ◌||◌}
 use mathlib.Core.List.{List}
@@ -14,7 +15,6 @@ use Rattle.truth_body.specs.Judged.{Less}
 use Rattle.verdict_state.specs.Model.{JudgesModel}
 use Rattle.truth_body.proofs.Laws.Budget.{told_done, told_spent}
 use Rattle.truth_body.specs.declared.judged.Judged.{Judged}
-use Rattle.truth_body.specs.declared.judged.Judged.TheVariants.{Done, Spent}
 use Rattle.verdict_input.specs.declared.answer.Answer.{Answer}
 use Rattle.verdict_input.specs.Answer.{numbers}
 use Rattle.verdict_state.specs.Models.{JudgesBoth, JudgesBothIndexed}
@@ -36,13 +36,12 @@ module _ (limited first second : Bool) (count budget : ℕ) {x : Numbers} where
       is_accepted s e = rw (l, not-false first f, s) e
 
 -- What is left is no more than there was.
-pub left_below : {b budget left : ℕ} {truth limited : Bool} {r : Judged} → Less b r → r ≡ Done truth limited left → b ≤ budget
-    → left ≤ budget
-left_below l f h = omega (arith, l.there _ _ _ f)
+pub left_below : {b budget : ℕ} {d : Judged} {r : Option Judged} → Less b r → r ≡ Some d → b ≤ budget → d.left ≤ budget
+left_below {d = d} l f h = omega (arith, l.there d f)
 
 -- Of both: the visits are more than the budget, in the first model or in the second, or they are not.
-module _ (s₁ s₂ f : List ℕ) (budget : ℕ) {r : Judged} {a : Answer} (e : JudgesModel s₁ f budget r) where
-  pub first_spent : r ≡ Spent → numbers a ≡ answer 10 budget → JudgesBothIndexed s₁ s₂ f budget a
+module _ (s₁ s₂ f : List ℕ) (budget : ℕ) {r : Option Judged} {a : Answer} (e : JudgesModel s₁ f budget r) where
+  pub first_spent : r ≡ None → numbers a ≡ answer 10 budget → JudgesBothIndexed s₁ s₂ f budget a
   unfolding judged
   first_spent d g = record {
     exact = λ P Q F p q m.
@@ -50,25 +49,25 @@ module _ (s₁ s₂ f : List ℕ) (budget : ℕ) {r : Judged} {a : Answer} (e : 
         rw (g, lt-ltb budget ((judge_model F P).count + (judge_model F Q).count) (omega arith));
   }
 
-  module _ {truth limited : Bool} {left : ℕ} {r' : Judged} (d : r ≡ Done truth limited left) (e' : JudgesModel s₂ f left r') where
-    pub second_spent : r' ≡ Spent → numbers a ≡ answer 10 budget → JudgesBothIndexed s₁ s₂ f budget a
+  module _ {j : Judged} {r' : Option Judged} (d : r ≡ Some j) (e' : JudgesModel s₂ f j.left r') where
+    pub second_spent : r' ≡ None → numbers a ≡ answer 10 budget → JudgesBothIndexed s₁ s₂ f budget a
     unfolding judged
     second_spent d' g = record {
       exact = λ P Q F p q m.
           let w = told_done budget (judge_model F P) (e.exact P F p m) d in
-          let more = told_spent left (judge_model F Q) (e'.exact Q F q m) d' in
+          let more = told_spent j.left (judge_model F Q) (e'.exact Q F q m) d' in
           rw (g, lt-ltb budget ((judge_model F P).count + (judge_model F Q).count) (omega (arith, w.count, more)));
     }
 
-    pub both_done : {truth' limited' : Bool} {rest : ℕ} → r' ≡ Done truth' limited' rest
-        → numbers a ≡ ranked false (limited || limited') truth truth' (budget - rest) budget → JudgesBothIndexed s₁ s₂ f budget a
+    pub both_done : {k : Judged} → r' ≡ Some k
+        → numbers a ≡ ranked false (j.limited || k.limited) j.truth k.truth (budget - k.left) budget → JudgesBothIndexed s₁ s₂ f budget a
     unfolding judged
-    both_done {rest} d' g = record {
+    both_done {k} d' g = record {
       exact = λ P Q F p q m.
           let w = told_done budget (judge_model F P) (e.exact P F p m) d in
-          let w' = told_done left (judge_model F Q) (e'.exact Q F q m) d' in
-          let count : (judge_model F P).count + (judge_model F Q).count ≡ budget - rest = omega (arith, w.count, w'.count) in
-          rw (g, w.truth, w.limited, w'.truth, w'.limited, count, le-ltb budget (budget - rest) (omega arith));
+          let w' = told_done j.left (judge_model F Q) (e'.exact Q F q m) d' in
+          let count : (judge_model F P).count + (judge_model F Q).count ≡ budget - k.left = omega (arith, w.count, w'.count) in
+          rw (g, w.truth, w.limited, w'.truth, w'.limited, count, le-ltb budget (budget - k.left) (omega arith));
     }
 
 -- A formula that was put into a slice with its index is the one that is judged.

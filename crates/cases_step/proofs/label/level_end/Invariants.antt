@@ -2,8 +2,8 @@
 use Rattle.std.proofs.Common.{length, ◌+◌, ◌-◌, ◌≤◌}
 use Rattle.cases_step.proofs.label.level_end.Given as goal
 
-abbrev pub invariant-loop-i : goal.invariant-loop-i
-invariant-loop-i l = l.i ≤ length l.labels + 4
+abbrev pub invariant-loop-first : goal.invariant-loop-first
+invariant-loop-first l = l.i ≤ length l.labels + 4
 
-abbrev pub decreases-loop-i : goal.decreases-loop-i
-decreases-loop-i l = length l.labels + 4 - l.i
+abbrev pub decreases-loop-first : goal.decreases-loop-first
+decreases-loop-first l = length l.labels + 4 - l.i

@@ -3,8 +3,8 @@ use Rattle.std.proofs.Common.{rules}
 use Rattle.decode_number.proofs.Laws.Bounded.{bounds}
 use Rattle.decode_number.proofs.number.end_below.Goals as goal
 
-pub returns-in-Is : goal.returns-in-Is
-returns-in-Is c = search (rules, bounds)
+pub returns-in_err-end : goal.returns-in_err-end
+returns-in_err-end c = search (rules, bounds)
 
-pub returns-in-Refused : goal.returns-in-Refused
-returns-in-Refused c = search (rules, bounds)
+pub returns : goal.returns
+returns c = search (rules, bounds, c.in_ok-end.was)

@@ -3,8 +3,8 @@ use Rattle.std.proofs.Common.{rules}
 use Rattle.decode_slice.proofs.Laws.Room.{rooms}
 use Rattle.decode_slice.proofs.formula.room.Goals as goal
 
-pub returns-then-step-eq0 : goal.returns-then-step-eq0
-returns-then-step-eq0 c = search (rules, rooms)
+pub returns-then-not-kind : goal.returns-then-not-kind
+returns-then-not-kind c = search (rules, rooms)
 
-pub returns : goal.returns
-returns c = search (rules, rooms)
+pub returns-else-not-kind : goal.returns-else-not-kind
+returns-else-not-kind c = search (rules, rooms)

@@ -3,8 +3,8 @@ use Rattle.std.proofs.Common.{rules}
 use Rattle.decode_slice.proofs.Laws.Room.{rooms}
 use Rattle.decode_slice.proofs.process.room.Goals as goal
 
-pub returns-then-binds-eq0 : goal.returns-then-binds-eq0
-returns-then-binds-eq0 c = search (rules, rooms)
+pub returns-then-kind-eq0 : goal.returns-then-kind-eq0
+returns-then-kind-eq0 c = search (rules, rooms)
 
-pub returns : goal.returns
-returns c = search (rules, rooms)
+pub returns-else-kind-eq0 : goal.returns-else-kind-eq0
+returns-else-kind-eq0 c = search (rules, rooms)

@@ -3,8 +3,8 @@ use Rattle.std.proofs.Common.{rules}
 use Rattle.message_binding.proofs.Laws.Decide.{seconds}
 use Rattle.message_binding.proofs.decide.second.Goals as goal
 
-pub returns-in-Done-clause-second_compared : goal.returns-in-Done-clause-second_compared
-returns-in-Done-clause-second_compared c = search (rules, seconds)
+pub returns-clause-second_compared : goal.returns-clause-second_compared
+returns-clause-second_compared c = search (rules, seconds)
 
-pub returns-in-TooLarge-clause-second_compared : goal.returns-in-TooLarge-clause-second_compared
-returns-in-TooLarge-clause-second_compared c = search (rules, seconds)
+pub returns-in_err-next-clause-second_compared : goal.returns-in_err-next-clause-second_compared
+returns-in_err-next-clause-second_compared c = search (rules, seconds)

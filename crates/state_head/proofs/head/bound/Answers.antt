@@ -3,8 +3,8 @@ use Rattle.std.proofs.Common.{rules}
 use Rattle.state_head.proofs.Laws.HeadKinds.{let_ends, lets_down}
 use Rattle.state_head.proofs.head.bound.Goals as goal
 
-pub returns-in-Done-clause-descends_if : goal.returns-in-Done-clause-descends_if
-returns-in-Done-clause-descends_if c = search (rules, let_ends, lets_down)
+pub returns-clause-descends_if : goal.returns-clause-descends_if
+returns-clause-descends_if c = search (rules, let_ends, lets_down)
 
-pub returns-in-TooLarge-clause-descends_if : goal.returns-in-TooLarge-clause-descends_if
-returns-in-TooLarge-clause-descends_if c = search (rules, let_ends, lets_down)
+pub returns-in_err-next-clause-descends_if : goal.returns-in_err-next-clause-descends_if
+returns-in_err-next-clause-descends_if c = search (rules, let_ends, lets_down)

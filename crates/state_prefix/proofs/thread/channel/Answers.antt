@@ -11,8 +11,8 @@ returns-then-agrees-clause-written_from c = search (rules, reaches, channels, fo
 pub returns-then-agrees-clause-channels : goal.returns-then-agrees-clause-channels
 returns-then-agrees-clause-channels c = search (rules, reaches, channels, found_extends)
 
-pub returns-else-agrees-clause-channels : goal.returns-else-agrees-clause-channels
-returns-else-agrees-clause-channels c = search (rules, reaches, channels, found_extends)
+pub returns-clause-channels : goal.returns-clause-channels
+returns-clause-channels c = search (rules, reaches, channels, found_extends)
 
-pub returns-in-TooLarge-clause-channels : goal.returns-in-TooLarge-clause-channels
-returns-in-TooLarge-clause-channels c = search (rules, reaches, channels, found_extends)
+pub returns-in_default-clause-channels : goal.returns-in_default-clause-channels
+returns-in_default-clause-channels c = search (rules, reaches, channels, found_extends)

@@ -4,8 +4,8 @@ use Rattle.state_record.proofs.Laws.Room.{record_rooms}
 use Rattle.state_progress.proofs.Laws.Push.{push_bounds, pushes}
 use Rattle.state_progress.proofs.written.push.Goals as goal
 
-pub returns-in-To-clause-pushes : goal.returns-in-To-clause-pushes
-returns-in-To-clause-pushes c = search (rules, record_rooms, push_bounds, pushes)
+pub returns-clause-pushes : goal.returns-clause-pushes
+returns-clause-pushes c = search (rules, record_rooms, push_bounds, pushes)
 
-pub returns-in-Full-clause-pushes : goal.returns-in-Full-clause-pushes
-returns-in-Full-clause-pushes c = search (rules, record_rooms, push_bounds, pushes)
+pub returns-in_default-clause-pushes : goal.returns-in_default-clause-pushes
+returns-in_default-clause-pushes c = search (rules, record_rooms, push_bounds, pushes)

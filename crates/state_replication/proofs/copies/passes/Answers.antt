@@ -6,11 +6,8 @@ use Rattle.state_replication.proofs.copies.passes.Goals as goal
 pub returns-then-at-mark : goal.returns-then-at-mark
 returns-then-at-mark c = search (rules, passings)
 
-pub returns-then-contains : goal.returns-then-contains
-returns-then-contains c = search (rules, passings)
-
 pub returns-then-at-mark-2 : goal.returns-then-at-mark-2
 returns-then-at-mark-2 c = search (rules, passings)
 
-pub returns : goal.returns
-returns c = search (rules, passings)
+pub returns-else-at-mark-2 : goal.returns-else-at-mark-2
+returns-else-at-mark-2 c = search (rules, passings)

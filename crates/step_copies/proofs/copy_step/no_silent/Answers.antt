@@ -6,5 +6,5 @@ use Rattle.step_copies.proofs.copy_step.no_silent.Goals as goal
 pub returns-then-last-eq0 : goal.returns-then-last-eq0
 returns-then-last-eq0 c = search (rules, no_silents)
 
-pub returns-then-last-eq0-2 : goal.returns-then-last-eq0-2
-returns-then-last-eq0-2 c = search (rules, no_silents)
+pub returns-else-last-eq0 : goal.returns-else-last-eq0
+returns-else-last-eq0 c = search (rules, no_silents)

@@ -4,8 +4,8 @@ use Rattle.state_progress.proofs.Laws.Progress.{to_ends}
 use Rattle.step_next.proofs.Laws.Silent.{silents}
 use Rattle.step_next.proofs.silent.first.Goals as goal
 
-pub returns-in-Found-clause-next_joint : goal.returns-in-Found-clause-next_joint
-returns-in-Found-clause-next_joint c = search (rules, to_ends, silents)
+pub returns-in-Some-clause-next_joint : goal.returns-in-Some-clause-next_joint
+returns-in-Some-clause-next_joint c = search (rules, to_ends, silents)
 
-pub returns-in-None-clause-next_joint : goal.returns-in-None-clause-next_joint
-returns-in-None-clause-next_joint c = search (rules, to_ends, silents)
+pub returns-clause-next_joint : goal.returns-clause-next_joint
+returns-clause-next_joint c = search (rules, to_ends, silents)

@@ -6,5 +6,5 @@ use Rattle.step_offer.proofs.pass.differs.Goals as goal
 pub returns-then-argument-ne2 : goal.returns-then-argument-ne2
 returns-then-argument-ne2 c = search (rules, differences)
 
-pub returns : goal.returns
-returns c = search (rules, differences)
+pub returns-else-argument-ne2 : goal.returns-else-argument-ne2
+returns-else-argument-ne2 c = search (rules, differences)

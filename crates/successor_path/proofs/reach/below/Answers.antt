@@ -1,19 +1,20 @@
 -- `successor_path::reach::below` meets its contract.
-use Rattle.std.proofs.Common.{rules}
-use Rattle.successor_path.proofs.Laws.ReachKinds.{kinds}
+use Rattle.std.proofs.Common.{rules, refl}
+use Rattle.successor_path.proofs.Laws.ReachKinds.{kinds, of_none}
 use Rattle.successor_path.proofs.reach.below.Goals as goal
 
-pub returns-then-kind-eq-NEW-clause-leads_past : goal.returns-then-kind-eq-NEW-clause-leads_past
-returns-then-kind-eq-NEW-clause-leads_past c = search (rules, kinds)
+pub returns-in-Ok-New-clause-leads_past : goal.returns-in-Ok-New-clause-leads_past
+returns-in-Ok-New-clause-leads_past c = search (rules, kinds)
 
-pub returns-then-kind-eq-IF-clause-leads_past : goal.returns-then-kind-eq-IF-clause-leads_past
-returns-then-kind-eq-IF-clause-leads_past c = search (rules, kinds)
+pub returns-in-Ok-If-clause-leads_past : goal.returns-in-Ok-If-clause-leads_past
+returns-in-Ok-If-clause-leads_past c = search (rules, kinds)
 
-pub returns-then-kind-eq-LET-clause-leads_past : goal.returns-then-kind-eq-LET-clause-leads_past
-returns-then-kind-eq-LET-clause-leads_past c = search (rules, kinds)
+pub returns-in-Ok-Let-clause-leads_past : goal.returns-in-Ok-Let-clause-leads_past
+returns-in-Ok-Let-clause-leads_past c = search (rules, kinds)
 
-pub returns-then-kind-eq-REPL-clause-leads_past : goal.returns-then-kind-eq-REPL-clause-leads_past
-returns-then-kind-eq-REPL-clause-leads_past c = search (rules, kinds)
+pub returns-in-Ok-Repl-clause-leads_past : goal.returns-in-Ok-Repl-clause-leads_past
+returns-in-Ok-Repl-clause-leads_past c = search (rules, kinds)
 
-pub returns-clause-leads_past : goal.returns-clause-leads_past
-returns-clause-leads_past c = search (rules, kinds)
+pub returns-in_default-clause-leads_past : goal.returns-in_default-clause-leads_past
+returns-in_default-clause-leads_past c =
+    of_none refl (search rules) (search rules) (search rules) (search rules) (search rules)

@@ -10,11 +10,11 @@ returns-then-visits-eq0-clause-less c = search (rules, charged, chargings)
 pub returns-then-visits-eq0-clause-charges : goal.returns-then-visits-eq0-clause-charges
 returns-then-visits-eq0-clause-charges c = search (rules, charged, chargings)
 
-pub returns-then-left-visits-clause-less : goal.returns-then-left-visits-clause-less
-returns-then-left-visits-clause-less c = search (rules, charged, chargings)
+pub returns-in_err-left-clause-less : goal.returns-in_err-left-clause-less
+returns-in_err-left-clause-less c = search (rules, charged, chargings)
 
-pub returns-then-left-visits-clause-charges : goal.returns-then-left-visits-clause-charges
-returns-then-left-visits-clause-charges c = search (rules, charged, chargings)
+pub returns-in_err-left-clause-charges : goal.returns-in_err-left-clause-charges
+returns-in_err-left-clause-charges c = search (rules, charged, chargings)
 
 pub returns-clause-less : goal.returns-clause-less
 returns-clause-less c = search (rules, charged, chargings)

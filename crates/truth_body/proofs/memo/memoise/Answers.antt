@@ -8,6 +8,3 @@ returns-in-Open c = search (rules, memoisings)
 
 pub returns-in-Alike : goal.returns-in-Alike
 returns-in-Alike c = search (rules, memoisings)
-
-pub returns-in-Each : goal.returns-in-Each
-returns-in-Each c = search (rules, memoisings)

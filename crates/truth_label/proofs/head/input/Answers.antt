@@ -3,8 +3,8 @@ use Rattle.std.proofs.Common.{rules}
 use Rattle.truth_label.proofs.Laws.Head.{inputs}
 use Rattle.truth_label.proofs.head.input.Goals as goal
 
-pub returns-in-Done-clause-inputs : goal.returns-in-Done-clause-inputs
-returns-in-Done-clause-inputs c = search (rules, inputs)
+pub returns-clause-inputs : goal.returns-clause-inputs
+returns-clause-inputs c = search (rules, inputs)
 
-pub returns-in-TooLarge-clause-inputs : goal.returns-in-TooLarge-clause-inputs
-returns-in-TooLarge-clause-inputs c = search (rules, inputs)
+pub returns-in_err-next-clause-inputs : goal.returns-in_err-next-clause-inputs
+returns-in_err-next-clause-inputs c = search (rules, inputs)

@@ -3,8 +3,8 @@ use Rattle.std.proofs.Common.{rules}
 use Rattle.truth_label.proofs.Laws.Head.{tellings}
 use Rattle.truth_label.proofs.head.message.Goals as goal
 
-pub returns-in-Done-clause-tells : goal.returns-in-Done-clause-tells
-returns-in-Done-clause-tells c = search (rules, tellings)
+pub returns-clause-tells : goal.returns-clause-tells
+returns-clause-tells c = search (rules, tellings, c.in_ok-next.was)
 
-pub returns-in-TooLarge-clause-tells : goal.returns-in-TooLarge-clause-tells
-returns-in-TooLarge-clause-tells c = search (rules, tellings)
+pub returns-in_err-next-clause-tells : goal.returns-in_err-next-clause-tells
+returns-in_err-next-clause-tells c = search (rules, tellings)

@@ -3,11 +3,11 @@ use Rattle.std.proofs.Common.{rules}
 use Rattle.truth_label.proofs.Laws.Head.{heads}
 use Rattle.truth_label.proofs.head.work.Goals as goal
 
-pub returns-then-kind-eq-OUTPUT-clause-heads : goal.returns-then-kind-eq-OUTPUT-clause-heads
-returns-then-kind-eq-OUTPUT-clause-heads c = search (rules, heads)
+pub returns-in-Output-clause-heads : goal.returns-in-Output-clause-heads
+returns-in-Output-clause-heads c = search (rules, heads)
 
-pub returns-then-kind-eq-INPUT-clause-heads : goal.returns-then-kind-eq-INPUT-clause-heads
-returns-then-kind-eq-INPUT-clause-heads c = search (rules, heads)
+pub returns-in-Input-clause-heads : goal.returns-in-Input-clause-heads
+returns-in-Input-clause-heads c = search (rules, heads)
 
-pub returns-clause-heads : goal.returns-clause-heads
-returns-clause-heads c = search (rules, heads)
+pub returns-in_default-clause-heads : goal.returns-in_default-clause-heads
+returns-in_default-clause-heads c = search (rules, heads)

@@ -3,8 +3,8 @@ use Rattle.std.proofs.Common.{rules}
 use Rattle.truth_label.proofs.Laws.Recipe.{recipes}
 use Rattle.truth_label.proofs.recipe.recipe.Goals as goal
 
-pub returns-in-Done-clause-recipes : goal.returns-in-Done-clause-recipes
-returns-in-Done-clause-recipes c = search (rules, recipes)
+pub returns-clause-recipes : goal.returns-clause-recipes
+returns-clause-recipes c = search (rules, recipes)
 
-pub returns-in-TooLarge-clause-recipes : goal.returns-in-TooLarge-clause-recipes
-returns-in-TooLarge-clause-recipes c = search (rules, recipes)
+pub returns-in_err-worked-clause-recipes : goal.returns-in_err-worked-clause-recipes
+returns-in_err-worked-clause-recipes c = search (rules, recipes)

@@ -3,13 +3,13 @@ use Rattle.std.proofs.Common.{rules}
 use Rattle.verdict_state.proofs.Laws.Judged.{budgets, judgings}
 use Rattle.verdict_state.proofs.models.both.Goals as goal
 
-pub returns-in-Done-judge-clause-judges_both_indexed :
-    goal.returns-in-Done-judge-clause-judges_both_indexed
-returns-in-Done-judge-clause-judges_both_indexed c = search (rules, budgets, judgings)
+pub returns-clause-judges_both_indexed :
+    goal.returns-clause-judges_both_indexed
+returns-clause-judges_both_indexed c = search (rules, budgets, judgings)
 
-pub returns-in-Spent-judge-clause-judges_both_indexed :
-    goal.returns-in-Spent-judge-clause-judges_both_indexed
-returns-in-Spent-judge-clause-judges_both_indexed c = search (rules, budgets, judgings)
+pub returns-in_default-judge-clause-judges_both_indexed :
+    goal.returns-in_default-judge-clause-judges_both_indexed
+returns-in_default-judge-clause-judges_both_indexed c = search (rules, budgets, judgings)
 
-pub returns-in-Spent-clause-judges_both_indexed : goal.returns-in-Spent-clause-judges_both_indexed
-returns-in-Spent-clause-judges_both_indexed c = search (rules, budgets, judgings)
+pub returns-in_default-clause-judges_both_indexed : goal.returns-in_default-clause-judges_both_indexed
+returns-in_default-clause-judges_both_indexed c = search (rules, budgets, judgings)

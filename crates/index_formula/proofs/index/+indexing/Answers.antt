@@ -1,0 +1,23 @@
+-- `index_formula::index::index` and `index_formula::index::row`, which call each other, meet their contracts. The measure is the number
+-- of formula nodes left, two steps to a node.
+use Rattle.std.proofs.Common.{rules}
+use Rattle.buffer.proofs.Laws.Buffer.{unchanged, one_after}
+use Rattle.index_formula.proofs.Laws.Index.{indexing, rows}
+use Rattle.index_formula.proofs.index.+indexing.Goals as goal
+
+pub index-returns-then-left-eq0-clause-indexes : goal.index-returns-then-left-eq0-clause-indexes
+index-returns-then-left-eq0-clause-indexes t c = search (rules, unchanged, indexing, one_after, rows)
+
+pub index-returns-then-at-ge-SLICE-clause-indexes :
+    goal.index-returns-then-at-ge-SLICE-clause-indexes
+index-returns-then-at-ge-SLICE-clause-indexes t c = search (rules, indexing, rows)
+
+pub index-returns-clause-indexes : goal.index-returns-clause-indexes
+index-returns-clause-indexes t c = search (rules, indexing, rows)
+
+pub row-returns-then-count-eq1-clause-indexes_row :
+    goal.row-returns-then-count-eq1-clause-indexes_row
+row-returns-then-count-eq1-clause-indexes_row t c = search (rules, indexing, rows)
+
+pub row-returns-clause-indexes_row : goal.row-returns-clause-indexes_row
+row-returns-clause-indexes_row t c = search (rules, indexing, rows)
