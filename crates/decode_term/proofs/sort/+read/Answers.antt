@@ -41,18 +41,21 @@ returns-in_err-i g t c =
 
 pub loop-kind-smaller-then-parts-eq2 : goal.loop-kind-smaller-then-parts-eq2
 loop-kind-smaller-then-parts-eq2 g t c =
-    left_falls _ _ _ _ _ _ c.head.ensures c.in_ok-kind.was (ap g.S.Sort.left c.to_parts-inner.ensures.path ∙ c.requires.1.falls _ _)
+    let less = ap g.S.Sort.left c.to_parts-inner.ensures.path ∙ c.requires.1.falls _ _ in
+    let falls = left_falls _ _ _ _ _ _ c.head.ensures c.in_ok-kind.was less in
+    search (rules, falls)
 
 pub loop-kind-preserved-then-parts-eq2 : goal.loop-kind-preserved-then-parts-eq2
 loop-kind-preserved-then-parts-eq2 g t c =
     let path = c.to_parts-inner.ensures.path in
     let less = ap g.S.Sort.left path ∙ c.requires.1.falls _ _ in
     let part = rw path at c.read.ensures in
+    let below = part_below _ _ _ _ _ _ c.head.ensures c.in_ok-kind.was less c.loop-kind.invariant.2 in
     let last = ap (λ p. g.S.Sort.tree p c.args.s.now c.in_ok-i.i) path in (
       two_parts _ _ _ c.loop-kind.invariant.0 c.head.ensures c.in_ok-kind.was c.parts_of-parts.ensures c.if-parts-eq2.true part c.in_ok-i.was last
           ∙ c.requires.1.shape _ _ _,
-      c.to_parts-inner.ensures.still,
-      part_below _ _ _ _ _ _ c.head.ensures c.in_ok-kind.was less c.loop-kind.invariant.2,
+      search (rules, c.to_parts-inner.ensures.still),
+      search (rules, below),
     )
 
 pub loop-kind-smaller : goal.loop-kind-smaller
