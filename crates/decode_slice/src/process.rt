@@ -58,7 +58,7 @@ impl Sort for Path {
         term::fields(s, at, self.scope, layout::process(k).fields)
     }
 
-    fn to_parts(self, k: usize) -> Path {
+    fn to_part(self, k: usize, _part: usize) -> Path {
         let scope = self.scope + layout::process(k).binds;
         let left = self.left - 1;
         Path { scope, left }

@@ -1,6 +1,6 @@
 // What terms, processes and formulas have in common ("Bytes"): a node is its kind, fields of a lower sort, and parts of its own sort. One
 // reader reads them all.
-ghost use Rattle.std.specs.Prelude.{◌≡◌, T, Bool, ◌&&◌, List, ℕ, ◌<◌, ltb};
+ghost use Rattle.std.specs.Prelude.{◌≡◌, T, Bool, ◌&&◌, List, ℕ, ◌<◌, ◌≤◌, ltb};
 ghost use Rattle.decode_number.specs.Answer.{Extent, answer, bounded};
 ghost use Rattle.decode_layout.specs.declared.layout.Layout.{Layout};
 ghost use Rattle.decode_layout.specs.Layout.{parts, layout_of};
@@ -49,8 +49,8 @@ pub trait Sort: Copy {
         requires { k < KINDS }
         ensures { answer result ≡ own self s.now k at };
 
-    // The path to the parts of a node of this kind.
-    fn to_parts(self, k: usize) -> Self
+    // The path to a part of a node of this kind, the first being 0. It is the same for each: what stands in one part is not in scope in another.
+    fn to_part(self, k: usize, part: usize) -> Self
         requires { (k < KINDS) × fits self × T (ltb 0 (left self) && room self k) }
         ensures path { result ≡ below self k }
         ensures still { fits result };
@@ -70,9 +70,10 @@ fn head<S: Sort>(s: &[u8], at: usize, path: S) -> Result<Decoding, Refused>
     Ok(Decoding { value, end })
 }
 
-// The tree at a position, of a sort whose trees are nodes. The last part of a node is read by the loop.
+// The tree at a position, of a sort whose trees are nodes. The last part of a node is read by the loop. At most 128 nodes may be
+// left on the path, so that the stack bears the calls.
 pub fn read<S: Sort>(s: &[u8], at: usize, path: S) -> Result<usize, Refused>
-    requires { S.fits path × Nodes S.KINDS S.table S.left S.room S.own S.below S.tree }
+    requires { S.fits path × Nodes S.KINDS S.table S.left S.room S.own S.below S.tree × (S.left path ≤ 128) }
     ensures { answer result ≡ S.tree path s.now at }
 {
     let mut i = at;
@@ -83,10 +84,11 @@ pub fn read<S: Sort>(s: &[u8], at: usize, path: S) -> Result<usize, Refused>
         if parts == 0 {
             return Ok(kind.end);
         }
-        inner = inner.to_parts(kind.value);
+        let first = inner.to_part(kind.value, 0);
+        inner = inner.to_part(kind.value, parts - 1);
         i = kind.end;
         if parts == 2 {
-            i = read(s, i, inner)?;
+            i = read(s, i, first)?;
         }
     }
 }

@@ -55,7 +55,7 @@ impl Sort for Path {
         }
     }
 
-    fn to_parts(self, _k: usize) -> Path {
+    fn to_part(self, _k: usize, _part: usize) -> Path {
         let left = self.left - 1;
         Path { left, ..self }
     }

@@ -13,7 +13,7 @@ pub returns-then-s-gt-BYTES-clause-formula_answer : goal.returns-then-s-gt-BYTES
 returns-then-s-gt-BYTES-clause-formula_answer c = formula_exact _ c.type_inv.s _ (search (rules, slices))
 
 pub read-requires : goal.read-requires
-read-requires c = (omega arith, formulas)
+read-requires c = (omega arith, formulas, omega arith)
 
 pub returns-in_err-end-clause-result_value : goal.returns-in_err-end-clause-result_value
 returns-in_err-end-clause-result_value c =

@@ -1,5 +1,5 @@
 -- `decode_slice::read_model` meets its contract: a slice that is too long, or the answer of `process::read` up to the slice's end.
-use Rattle.std.proofs.Common.{rules}
+use Rattle.std.proofs.Common.{rules, arith}
 use Rattle.std.proofs.lemmas.Result.{err_from_is_err_and}
 use Rattle.decode_slice.proofs.Laws.Whole.{slices}
 use Rattle.decode_slice.proofs.Laws.Sorts.{processes}
@@ -13,7 +13,7 @@ pub returns-then-s-gt-BYTES-clause-model_answer : goal.returns-then-s-gt-BYTES-c
 returns-then-s-gt-BYTES-clause-model_answer c = model_exact _ c.type_inv.s _ (search (rules, slices))
 
 pub read-requires : goal.read-requires
-read-requires c = (tt, processes)
+read-requires c = (tt, processes, omega arith)
 
 pub returns-in_err-end-clause-result_value : goal.returns-in_err-end-clause-result_value
 returns-in_err-end-clause-result_value c =

@@ -1,5 +1,5 @@
 -- `decode_term::term::fields` meets its contract, term by term. The measure is the number of terms to come.
-use Rattle.std.proofs.Common.{rules}
+use Rattle.std.proofs.Common.{rules, arith}
 use Rattle.std.proofs.lemmas.Result.{err_from_is_err_and}
 use Rattle.decode_term.proofs.Laws.Node.{rows}
 use Rattle.decode_term.proofs.Laws.Terms.{terms}
@@ -14,7 +14,7 @@ returns-in_err-next t c =
     rw (p.1, p.2) (search (rules, rows, c.in_err-next.was))
 
 pub read-requires : goal.read-requires
-read-requires t c = (tt, terms)
+read-requires t c = (tt, terms, omega arith)
 
 pub returns : goal.returns
 returns t c = search (rules, rows, c.in_ok-next.was)
