@@ -3,7 +3,10 @@ use mathlib.Core.Path.{◌≡◌, refl, sym, ap₂, ◌∙◌}
 use mathlib.Core.Logic.{◌↔◌}
 use mathlib.Core.Bool.{Bool}
 use mathlib.Core.List.{List, [], ◌∷◌}
-use Prim.Native.Nat.{ℕ}
+use Prim.Native.Nat.{ℕ, ◌-◌}
+use native.Mathlib.Omega.{arith}
+use lib.ListN.{length, take}
+use lib.Seq.{take_all}
 use lib.Dec.{T, eqb→eq, eqb_refl}
 use lib.Ieee.Fits.{and_i, and_l, and_r}
 use Rattle.std.specs.Prelude.{nat_eq}
@@ -47,12 +50,19 @@ runs-decide m n h k = (
 )
 
 -- What std's test of slices says is that they are alike.
-pub compared : (a b : List ℕ) → pointwise nat_eq a b ≡ alike a b
+compared : (a b : List ℕ) → pointwise nat_eq a b ≡ alike a b
 unfolding alike
 compared [] [] = refl
 compared [] (y ∷ b) = refl
 compared (x ∷ a) [] = refl
 compared (x ∷ a) (y ∷ b) = rw (compared a b)
+
+-- The same of the parts of two runs, where these are the whole runs.
+pub whole : (a : List ℕ) → take (length a - 0) a ≡ a
+whole a = take_all (length a - 0) a (omega arith)
+
+pub compared_as : {a b x y : List ℕ} {r : Bool} → r ≡ pointwise nat_eq x y → x ≡ a → y ≡ b → r ≡ alike a b
+compared_as {a} {b} e p q = rw (e, p, q) (compared a b)
 
 module _ (a b : List ℕ) where
   -- Where both are runs of normal forms, that is the equality of the messages.
@@ -64,4 +74,4 @@ module _ (a b : List ℕ) where
     );
   }
 
-pub ruleset alikes = (compared, decides)
+pub ruleset alikes = (compared_as, whole, decides)
