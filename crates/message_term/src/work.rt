@@ -53,11 +53,14 @@ fn work(s: &[u8], at: usize, left: usize, m: &mut [u8], base: usize, start: usiz
     if s.len() <= at {
         return None;
     }
-    match TermKind::try_from(s[at]) {
-        Ok(TermKind::Name) => leaf::name(s, at + 1, m, start),
-        Ok(TermKind::Variable) => leaf::variable(s, at + 1, m, base, start),
-        _ => node(s, at + 1, left - 1, m, base, start, usize::from(s[at])),
+    let kind = s[at];
+    if kind == TermKind::Name as u8 {
+        return leaf::name(s, at + 1, m, start);
     }
+    if kind == TermKind::Variable as u8 {
+        return leaf::variable(s, at + 1, m, base, start);
+    }
+    node(s, at + 1, left - 1, m, base, start, usize::from(kind))
 }
 
 // A term of a kind that has parts, which stand from the position on.

@@ -72,12 +72,17 @@ fn node(
     let end = head.end;
     let names = head.names;
     let done = progress::named(done, names);
-    match ProcessKind::try_from(s[at]) {
-        Ok(ProcessKind::Nil) => done,
-        Ok(ProcessKind::Par) => both(s, argument, at, left, m, end, plan, opens, out, done),
-        Ok(ProcessKind::Repl) => repl(s, argument, at, left, m, end, plan, opens, out, done),
-        _ => traverse::act(s, argument, at, left, m, end, plan, out, done),
+    let kind = s[at];
+    if kind == ProcessKind::Nil as u8 {
+        return done;
     }
+    if kind == ProcessKind::Par as u8 {
+        return both(s, argument, at, left, m, end, plan, opens, out, done);
+    }
+    if kind == ProcessKind::Repl as u8 {
+        return repl(s, argument, at, left, m, end, plan, opens, out, done);
+    }
+    traverse::act(s, argument, at, left, m, end, plan, out, done)
 }
 
 // Par: the first side, and then the second.

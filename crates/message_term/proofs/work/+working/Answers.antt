@@ -10,8 +10,6 @@ use Rattle.message_term.proofs.work.+working.Goals as goal
 use Rattle.message_term.proofs.work.+working.Goals.{
   rest-then-parts-eq1,
   rest-else-parts-eq1+in_ok-last,
-  work-in_default-via-in-Ok+in_default,
-  work-in_default-via-in_default,
 }
 
 -- What the answers share.
@@ -57,21 +55,17 @@ work-returns-then-left-eq0-clause-works t c = search (rules, shared, behind_kind
 pub work-returns-then-s-at-clause-works : goal.work-returns-then-s-at-clause-works
 work-returns-then-s-at-clause-works t c = search (rules, node_rooms, firsts, rest_withins, joins, end_above, works, term_rooms)
 
-pub work-returns-in-Ok-Name-clause-within : goal.work-returns-in-Ok-Name-clause-within
-work-returns-in-Ok-Name-clause-within t c = search (rules, node_rooms, firsts, rest_withins, joins, works, term_rooms)
+pub work-returns-then-kind-clause-within : goal.work-returns-then-kind-clause-within
+work-returns-then-kind-clause-within t c = search (rules, node_rooms, firsts, rest_withins, joins, works, term_rooms)
 
-pub work-returns-in-Ok-Name-clause-works : goal.work-returns-in-Ok-Name-clause-works
-work-returns-in-Ok-Name-clause-works t c = search (rules, shared, behind_kind, end_above, end_within, none_room, unchanged, no_reach)
+pub work-returns-then-kind-clause-works : goal.work-returns-then-kind-clause-works
+work-returns-then-kind-clause-works t c = search (rules, shared, behind_kind, end_above, end_within, none_room, unchanged, no_reach)
 
-pub work-returns-in-Ok-Variable-clause-within : goal.work-returns-in-Ok-Variable-clause-within
-work-returns-in-Ok-Variable-clause-within t c = search (rules, node_rooms, firsts, rest_withins, joins, works, term_rooms)
+pub work-returns-then-kind-2-clause-within : goal.work-returns-then-kind-2-clause-within
+work-returns-then-kind-2-clause-within t c = search (rules, node_rooms, firsts, rest_withins, joins, works, term_rooms)
 
-pub work-returns-in-Ok-Variable-clause-works : goal.work-returns-in-Ok-Variable-clause-works
-work-returns-in-Ok-Variable-clause-works t c = search (rules, shared, behind_kind, end_above, end_within, none_room, unchanged, no_reach)
+pub work-returns-then-kind-2-clause-works : goal.work-returns-then-kind-2-clause-works
+work-returns-then-kind-2-clause-works t c = search (rules, shared, behind_kind, end_above, end_within, none_room, unchanged, no_reach)
 
-pub work-returns-in_default-clause-works : goal.work-returns-in_default-clause-works
-work-returns-in_default-clause-works t c =
-    elim c.in_default.branch [
-      | work-in_default-via-in-Ok+in_default w ↦ search (rules, w, w.in_default, works)
-      | work-in_default-via-in_default w ↦ search (rules, w, w.in_default, works)
-    ]
+pub work-returns-clause-works : goal.work-returns-clause-works
+work-returns-clause-works t c = search (rules, shared, behind_kind, end_above, end_within, none_room, unchanged, no_reach)

@@ -1,6 +1,6 @@
 -- The traversal that builds meets its contract: `state_build::build::build` and the functions for a head, a par, a repl thread and its copy call each
 -- other. The measure is the number of process nodes left, seven steps to a node.
-use Rattle.std.proofs.Common.{rules, ◌≡◌, get_or}
+use Rattle.std.proofs.Common.{rules}
 use Rattle.state_progress.proofs.Laws.Progress.{extensions, to_ends, records_ends}
 use Rattle.state_head.proofs.Laws.Traverse.{par_traversed, traverses, nodes}
 use Rattle.buffer.proofs.Laws.Buffer.{unchanged}
@@ -48,16 +48,12 @@ enter-returns-then-contains-2-clause-opens_built t c = search (rules, shared)
 pub enter-returns-clause-opens_built : goal.enter-returns-clause-opens_built
 enter-returns-clause-opens_built t c = search (rules, shared)
 
-pub node-returns-in-Ok-Nil-clause-head_traverses :
-    goal.node-returns-in-Ok-Nil-clause-head_traverses
-node-returns-in-Ok-Nil-clause-head_traverses t c = search (rules, shared, is_act)
+pub node-returns-then-kind-clause-head_traverses :
+    goal.node-returns-then-kind-clause-head_traverses
+node-returns-then-kind-clause-head_traverses t c = search (rules, shared, is_act)
 
-pub node-returns-in_default-clause-head_traverses : goal.node-returns-in_default-clause-head_traverses
-node-returns-in_default-clause-head_traverses t c =
-    let not_nil : get_or c.args.s.now c.args.head.at 0 ≡ 0 → ⊥ = λ e. search rules in
-    let not_par : get_or c.args.s.now c.args.head.at 0 ≡ 6 → ⊥ = λ e. search rules in
-    let not_repl : get_or c.args.s.now c.args.head.at 0 ≡ 7 → ⊥ = λ e. search rules in
-    search (rules, shared, is_act, not_nil, not_par, not_repl)
+pub node-returns-clause-head_traverses : goal.node-returns-clause-head_traverses
+node-returns-clause-head_traverses t c = search (rules, shared, is_act)
 
 pub repl-returns-clause-leaves : goal.repl-returns-clause-leaves
 repl-returns-clause-leaves t c = search (rules, shared, par_traversed, unchanged, copy_built, names_back, is_act, repl_built)

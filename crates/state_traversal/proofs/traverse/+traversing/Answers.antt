@@ -1,6 +1,6 @@
 -- The traversal of a process meets its contract: `state_traversal::traverse::traverse` and the functions for each kind of process and for the copies of a repl
 -- thread call each other. The measure is the number of process nodes left, twelve steps to a node.
-use Rattle.std.proofs.Common.{rules, ◌≡◌, get_or}
+use Rattle.std.proofs.Common.{rules}
 use Rattle.state_progress.proofs.Laws.Progress.{extensions, to_ends, records_ends, to_end_bound}
 use Rattle.state_head.proofs.Laws.Prefix.{located_offers, followed, prefixes, receipts}
 use Rattle.buffer.proofs.Laws.Buffer.{unchanged}
@@ -37,16 +37,12 @@ copy-returns-in_default-clause-opens t c = search (rules, shared)
 pub enter-returns-in-Again-clause-opens_by : goal.enter-returns-in-Again-clause-opens_by
 enter-returns-in-Again-clause-opens_by t c = search (rules, shared)
 
-pub node-returns-in-Ok-Nil-clause-head_traverses :
-    goal.node-returns-in-Ok-Nil-clause-head_traverses
-node-returns-in-Ok-Nil-clause-head_traverses t c = search (rules, shared)
+pub node-returns-then-kind-clause-head_traverses :
+    goal.node-returns-then-kind-clause-head_traverses
+node-returns-then-kind-clause-head_traverses t c = search (rules, shared)
 
-pub node-returns-in_default-clause-head_traverses : goal.node-returns-in_default-clause-head_traverses
-node-returns-in_default-clause-head_traverses t c =
-    let not_nil : get_or c.args.s.now c.args.head.at 0 ≡ 0 → ⊥ = λ e. search rules in
-    let not_par : get_or c.args.s.now c.args.head.at 0 ≡ 6 → ⊥ = λ e. search rules in
-    let not_repl : get_or c.args.s.now c.args.head.at 0 ≡ 7 → ⊥ = λ e. search rules in
-    search (rules, shared, not_nil, not_par, not_repl)
+pub node-returns-clause-head_traverses : goal.node-returns-clause-head_traverses
+node-returns-clause-head_traverses t c = search (rules, shared)
 
 pub pair-returns-clause-leaves : goal.pair-returns-clause-leaves
 pair-returns-clause-leaves t c = search (rules, shared, unchanged, par_traversed, followed, names_back, pairs, performances, to_end_bound, repls)
