@@ -30,12 +30,13 @@ fn slice(number: u32, read: Result<usize, Refused>) -> Result<(), Answer>
     }
 }
 
-// Nothing turns the input back; or the answer on the first thing that does. The buffer is tested first.
+// Nothing turns the input back; or the answer on the first thing that does. The buffer is tested first. All slices are read, also behind one
+// that is refused.
 pub fn read(first: &[u8], second: &[u8], formula: &[u8], work: usize) -> Result<(), Answer>
     ensures { refusal result ≡ refusal_of (input first.now second.now formula.now work) }
 {
-    buffer(work)?;
-    slice(1, decode_slice::read_model(first))?;
-    slice(2, decode_slice::read_model(second))?;
-    slice(3, decode_slice::read_formula(formula))
+    let one = slice(1, decode_slice::read_model(first));
+    let two = slice(2, decode_slice::read_model(second));
+    let three = slice(3, decode_slice::read_formula(formula));
+    buffer(work).and(one.and(two.and(three)))
 }

@@ -1,5 +1,6 @@
 -- The work buffer and the slices, one after the other ("Turned back for the input").
 use Rattle.std.specs.Prelude.{Ok, Err}
+use Rattle.std.specs.Result.{result_and}
 use mathlib.Core.Path.{◌≡◌, refl, ◌∙◌}
 use mathlib.Core.Bool.{Bool, true, false}
 use mathlib.Core.Option.{Option, none, some, or_else}
@@ -64,7 +65,7 @@ unfolding slice_refusal extent refusal_of with_first or_else
 ordered_first (found P end) s₂ s₃ = ordered_second P (read_model s₂) s₃
 ordered_first (refused number place) s₂ s₃ = refl
 
-ordered : (s₁ s₂ s₃ : List ℕ) (work : ℕ) {x : Option Numbers}
+pub ordered : (s₁ s₂ s₃ : List ℕ) (work : ℕ) {x : Option Numbers}
     → x ≡ or_else (buffer_refusal work) (or_else (slice_refusal 1 (extent (read_model s₁)))
     (or_else (slice_refusal 2 (extent (read_model s₂))) (slice_refusal 3 (extent (read_formula s₃)))))
     → x ≡ refusal_of (input s₁ s₂ s₃ work)
@@ -78,29 +79,10 @@ ordered s₁ s₂ s₃ work e = e ∙ by (ltb work work_bytes)
     by true = refl
     by false = ordered_first (read_model s₁) s₂ s₃
 
--- Each is looked at where nothing before it turns the input back.
-module _ (s₁ s₂ s₃ : List ℕ) (work : ℕ) {b : Input} (e : refusal b ≡ buffer_refusal work) where
-  pub by_buffer : {r : Code} → b ≡ Err r → some (numbers r) ≡ refusal_of (input s₁ s₂ s₃ work)
-  unfolding or_else
-  by_buffer f = ordered s₁ s₂ s₃ work (rw (← e, f))
-
-  module _ {u : Unit {0}} (f : b ≡ Ok u) (a₁ : Answer) (e₁ : answer a₁ ≡ extent (read_model s₁)) {b₁ : Input}
-      (g₁ : refusal b₁ ≡ slice_refusal 1 (answer a₁)) where
-    pub by_first : {r : Code} → b₁ ≡ Err r → some (numbers r) ≡ refusal_of (input s₁ s₂ s₃ work)
-    unfolding or_else
-    by_first f₁ = ordered s₁ s₂ s₃ work (rw (← e, f, ← e₁, ← g₁, f₁))
-
-    module _ {u₁ : Unit {0}} (f₁ : b₁ ≡ Ok u₁) (a₂ : Answer) (e₂ : answer a₂ ≡ extent (read_model s₂)) {b₂ : Input}
-        (g₂ : refusal b₂ ≡ slice_refusal 2 (answer a₂)) where
-      pub by_second : {r : Code} → b₂ ≡ Err r → some (numbers r) ≡ refusal_of (input s₁ s₂ s₃ work)
-      unfolding or_else
-      by_second f₂ = ordered s₁ s₂ s₃ work (rw (← e, f, ← e₁, ← g₁, f₁, ← e₂, ← g₂, f₂))
-
-      pub by_third : {u₂ : Unit {0}} → b₂ ≡ Ok u₂ → (a₃ : Answer) → answer a₃ ≡ extent (read_formula s₃) → {x : Option Numbers}
-          → x ≡ slice_refusal 3 (answer a₃) → x ≡ refusal_of (input s₁ s₂ s₃ work)
-      unfolding or_else
-      by_third f₂ a₃ e₃ g₃ = ordered s₁ s₂ s₃ work (g₃ ∙ rw (← e, f, ← e₁, ← g₁, f₁, ← e₂, ← g₂, f₂, ← e₃))
+-- The first of two is that of the first, if it has one.
+pub earlier : (a b : Input) → refusal (result_and a b) ≡ or_else (refusal a) (refusal b)
+unfolding or_else
+earlier (Ok u) b = refl
+earlier (Err r) b = refl
 
 pub ruleset inputs = (is_short, is_long, is_found, is_refused)
-
-pub ruleset in_order = (by_buffer, by_first, by_second, by_third)
