@@ -18,18 +18,26 @@ fn main(rt: HostRuntime) -> io::Result<()> {
     input::each_line(rt.stdin(), |line| {
         rt.write_all(line)?;
         answer_line(&rt, line)?;
-        rt.print("\n")
+        rt.write_all(b"\n")
     })
 }
 
 // The first letter says which reader is asked, if any.
 fn answer_line(rt: &impl Print, line: &[u8]) -> io::Result<()> {
+    match line.first() {
+        Some(sort @ (b'm' | b'f')) => answer_slice(rt, line, *sort),
+        _ => Ok(()),
+    }
+}
+
+// The answer on the slice that a line spells. The bytes for it are cleared for such a line alone.
+fn answer_slice(rt: &impl Print, line: &[u8], sort: u8) -> io::Result<()> {
     let mut bytes = [0u8; SPACE];
     let n = spell::spell(line, &mut bytes);
-    match line.first() {
-        Some(b'm') => print(rt, decode_slice::read_model(&bytes[..n])),
-        Some(b'f') => print(rt, decode_slice::read_formula(&bytes[..n])),
-        _ => Ok(()),
+    if sort == b'm' {
+        print(rt, decode_slice::read_model(&bytes[..n]))
+    } else {
+        print(rt, decode_slice::read_formula(&bytes[..n]))
     }
 }
 

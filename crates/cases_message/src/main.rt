@@ -26,7 +26,7 @@ fn main(rt: HostRuntime) -> io::Result<()> {
     input::each_line(rt.stdin(), |line| {
         rt.write_all(line)?;
         given = answer_line(&rt, line, given, &mut m)?;
-        rt.print("\n")
+        rt.write_all(b"\n")
     })
 }
 

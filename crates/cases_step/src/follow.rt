@@ -17,7 +17,7 @@ const LEVELS: usize = 16;
 // A case: its model with its index, and its labels.
 #[derive(Drop)]
 pub(crate) struct Case<'a> {
-    s: [u8; index::LENGTH],
+    s: &'a [u8; index::LENGTH],
     labels: &'a [u8],
 }
 
@@ -30,11 +30,7 @@ struct Level {
 }
 
 impl<'a> Case<'a> {
-    pub(crate) fn new(model: &[u8], labels: &'a [u8]) -> Case<'a>
-        requires { length model.now ≤ 4096 }
-    {
-        let mut s = [0; index::LENGTH];
-        index::build(model, &mut s);
+    pub(crate) fn new(s: &'a [u8; index::LENGTH], labels: &'a [u8]) -> Case<'a> {
         Case { s, labels }
     }
 
@@ -45,7 +41,8 @@ impl<'a> Case<'a> {
             at: 0,
             known: 0,
         };
-        let formed = form::start(&self.s, &mut space.m, &mut space.out, 0);
+        let s = self.s;
+        let formed = form::start(s, &mut space.m, &mut space.out, 0);
         self.arrive(rt, first, formed, space)
     }
 
@@ -113,7 +110,7 @@ impl<'a> Case<'a> {
         let c = label::channel(self.labels, at, state, space, &mut channel);
         let t = label::taken(self.labels, at, state, space, &mut taken);
         let channel = &channel[..c];
-        let count = Steps::new(state, kind, channel).count(&self.s, space);
+        let count = Steps::new(state, kind, channel).count(self.s, space);
         print::label(rt, self.labels, at, 2 * below.number - 1, count)?;
         let known = more(kind, below.known);
         let steps = Steps::new(state, kind, channel);
@@ -141,7 +138,7 @@ impl<'a> Case<'a> {
         requires { level.number ≤ 16 }
     {
         for _ in 0..count {
-            if let Some(formed) = steps.lead(&self.s, taken, space) {
+            if let Some(formed) = steps.lead(self.s, taken, space) {
                 self.arrive(rt, level, formed, space)?;
             }
         }

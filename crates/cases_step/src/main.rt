@@ -18,6 +18,7 @@ mod space;
 
 use cases_text::{hex, input};
 use follow::Case;
+use index_process::index;
 use space::Space;
 use std::io;
 
@@ -47,5 +48,7 @@ fn answer_line(rt: &impl Print, line: &[u8], space: &mut Space) -> io::Result<()
     let n = hex::spell(model, &mut s);
     let mut told = [0u8; LABELS];
     let k = hex::spell(labels, &mut told);
-    Case::new(&s[..n], &told[..k]).start(rt, space)
+    let mut indexed = [0u8; index::LENGTH];
+    index::build(&s[..n], &mut indexed);
+    Case::new(&indexed, &told[..k]).start(rt, space)
 }

@@ -22,11 +22,9 @@ impl Slice {
         len: 0,
     };
 
-    // The slice that a text spells.
-    fn spelled(text: &[u8]) -> Slice {
-        let mut bytes = [0u8; SPACE];
-        let len = spell::spell(text, &mut bytes);
-        Slice { bytes, len }
+    // Becomes the slice that a text spells, where it stands: no other bytes are cleared or copied.
+    fn spell(&mut self, text: &[u8]) {
+        self.len = spell::spell(text, &mut self.bytes);
     }
 
     fn get(&self) -> &[u8] {
@@ -54,9 +52,9 @@ impl Given {
     // The first letter says what the line gives, or that it is a case, whose answer is written.
     pub(crate) fn take(&mut self, rt: &impl Print, line: &[u8]) -> io::Result<()> {
         match line {
-            [b'1', text @ ..] => self.first = Slice::spelled(text),
-            [b'2', text @ ..] => self.second = Slice::spelled(text),
-            [b'f', text @ ..] => self.formula = Slice::spelled(text),
+            [b'1', text @ ..] => self.first.spell(text),
+            [b'2', text @ ..] => self.second.spell(text),
+            [b'f', text @ ..] => self.formula.spell(text),
             [b'w', text @ ..] => {
                 run::run(
                     rt,

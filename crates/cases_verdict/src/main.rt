@@ -24,6 +24,6 @@ fn main(rt: HostRuntime) -> io::Result<()> {
     input::each_line(rt.stdin(), |line| {
         rt.write_all(line)?;
         given.take(&rt, line)?;
-        rt.print("\n")
+        rt.write_all(b"\n")
     })
 }
