@@ -50,7 +50,7 @@ runs-decide m n h k = (
 )
 
 -- What std's test of slices says is that they are alike.
-compared : (a b : List ℕ) → pointwise nat_eq a b ≡ alike a b
+pub compared : (a b : List ℕ) → pointwise nat_eq a b ≡ alike a b
 unfolding alike
 compared [] [] = refl
 compared [] (y ∷ b) = refl
@@ -74,4 +74,4 @@ module _ (a b : List ℕ) where
     );
   }
 
-pub ruleset alikes = (compared_as, whole, decides)
+pub ruleset alikes = (compared, compared_as, whole, decides)
