@@ -59,7 +59,7 @@ impl Sort for Path {
         term::fields(s, at, self.scope, layout::formula(k).fields)
     }
 
-    fn to_part(self, k: usize, _part: usize) -> Path {
+    fn to_parts(self, k: usize) -> Path {
         let kind = layout::formula(k);
         let scope = self.scope + kind.binds;
         let left = self.left - 1;

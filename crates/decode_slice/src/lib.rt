@@ -32,7 +32,7 @@ pub fn read_model(s: &[u8]) -> Result<usize, Refused>
         scope: 0,
         left: limit::PROCESS_NODES,
     };
-    let end = sort::read(s, 0, path)?;
+    let end = sort::read_within(s, 0, path)?;
     to_the_end(s, end)
 }
 
@@ -50,7 +50,7 @@ pub fn read_formula(s: &[u8]) -> Result<usize, Refused>
         left: limit::FORMULA_NODES,
         steps: limit::STEP_FORMULAS,
     };
-    let end = sort::read(s, 0, path)?;
+    let end = sort::read_within(s, 0, path)?;
     to_the_end(s, end)
 }
 

@@ -58,6 +58,11 @@ impl Sort for Path {
         term::fields(s, at, self.scope, layout::process(k).fields)
     }
 
+    fn to_parts(self, k: usize) -> Path {
+        self.to_part(k, 0)
+    }
+
+    // What is bound in the first of two parts is not in scope in the second.
     fn to_part(self, k: usize, _part: usize) -> Path {
         let scope = self.scope + layout::process(k).binds;
         let left = self.left - 1;

@@ -49,11 +49,20 @@ pub trait Sort: Copy {
         requires { k < KINDS }
         ensures { answer result ≡ own self s.now k at };
 
+    // The path to the parts of a node of this kind.
+    fn to_parts(self, k: usize) -> Self
+        requires { (k < KINDS) × fits self × T (ltb 0 (left self) && room self k) }
+        ensures path { result ≡ below self k }
+        ensures still { fits result };
+
     // The path to a part of a node of this kind, the first being 0. It is the same for each: what stands in one part is not in scope in another.
     fn to_part(self, k: usize, part: usize) -> Self
         requires { (k < KINDS) × fits self × T (ltb 0 (left self) && room self k) }
         ensures path { result ≡ below self k }
-        ensures still { fits result };
+        ensures still { fits result }
+    {
+        self.to_parts(k)
+    }
 }
 
 // A node's kind, and the end of its fields.
@@ -70,10 +79,10 @@ fn head<S: Sort>(s: &[u8], at: usize, path: S) -> Result<Decoding, Refused>
     Ok(Decoding { value, end })
 }
 
-// The tree at a position, of a sort whose trees are nodes. The last part of a node is read by the loop. At most 128 nodes may be
-// left on the path, so that the stack bears the calls.
+// The tree at a position, of a sort whose trees are nodes. The last part of a node is read by the loop; a first of two is read by a
+// call, so that calls nest as deep as the path and the slice let them.
 pub fn read<S: Sort>(s: &[u8], at: usize, path: S) -> Result<usize, Refused>
-    requires { S.fits path × Nodes S.KINDS S.table S.left S.room S.own S.below S.tree × (S.left path ≤ 128) }
+    requires { S.fits path × Nodes S.KINDS S.table S.left S.room S.own S.below S.tree }
     ensures { answer result ≡ S.tree path s.now at }
 {
     let mut i = at;
@@ -91,4 +100,12 @@ pub fn read<S: Sort>(s: &[u8], at: usize, path: S) -> Result<usize, Refused>
             i = read(s, i, first)?;
         }
     }
+}
+
+// The same where at most 128 nodes are left on the path, so that the stack bears the calls.
+pub fn read_within<S: Sort>(s: &[u8], at: usize, path: S) -> Result<usize, Refused>
+    requires { S.fits path × Nodes S.KINDS S.table S.left S.room S.own S.below S.tree × (S.left path ≤ 128) }
+    ensures { answer result ≡ S.tree path s.now at }
+{
+    read(s, at, path)
 }

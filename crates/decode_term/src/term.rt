@@ -55,7 +55,7 @@ impl Sort for Path {
         }
     }
 
-    fn to_part(self, _k: usize, _part: usize) -> Path {
+    fn to_parts(self, _k: usize) -> Path {
         let left = self.left - 1;
         Path { left, ..self }
     }
@@ -69,6 +69,34 @@ pub fn fields(s: &[u8], at: usize, scope: usize, count: usize) -> Result<usize, 
         return Ok(at);
     }
     let left = limit::TERM_NODES;
-    let next = sort::read(s, at, Path { scope, left })?;
+    let next = sort::read_within(s, at, Path { scope, left })?;
     fields(s, next, scope, count - 1)
+}
+
+#[cfg(test)]
+mod tests {
+    use super::*;
+
+    // So many pairs, each the first part of the one before, nest far deeper than terms of document 01 may.
+    const PAIRS: usize = 1000;
+
+    // What is read of them and their names on a path with so many nodes left.
+    fn nested(left: usize) -> Result<usize, Refused> {
+        let mut s = [0; 3 * PAIRS + 2];
+        s[..PAIRS].fill(2);
+        sort::read(&s, 0, Path { scope: 0, left })
+    }
+
+    #[test]
+    fn the_path_is_the_only_limit(rt: HostRuntime) {
+        assert_eq!(rt; nested(PAIRS + 1), Ok(3 * PAIRS + 2));
+        let why = Refusal::TooDeep;
+        assert_eq!(rt; nested(PAIRS), Err(Refused { why, place: PAIRS }));
+    }
+
+    #[test]
+    fn a_part_has_one_node_less_left(rt: HostRuntime) {
+        let parts = Path { scope: 12, left: 8 }.to_parts(2);
+        assert_eq!(rt; (parts.scope, parts.left), (12, 7));
+    }
 }

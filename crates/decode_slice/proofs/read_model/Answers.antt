@@ -1,4 +1,4 @@
--- `decode_slice::read_model` meets its contract: a slice that is too long, or the answer of `process::read` up to the slice's end.
+-- `decode_slice::read_model` meets its contract: a slice that is too long, or the answer of `sort::read_within` up to the slice's end.
 use Rattle.std.proofs.Common.{rules, arith}
 use Rattle.std.proofs.lemmas.Result.{err_from_is_err_and}
 use Rattle.decode_slice.proofs.Laws.Whole.{slices}
@@ -12,8 +12,8 @@ returns-then-s-gt-BYTES-clause-result_value c = search (rules, slices)
 pub returns-then-s-gt-BYTES-clause-model_answer : goal.returns-then-s-gt-BYTES-clause-model_answer
 returns-then-s-gt-BYTES-clause-model_answer c = model_exact _ c.type_inv.s _ (search (rules, slices))
 
-pub read-requires : goal.read-requires
-read-requires c = (tt, processes, omega arith)
+pub read_within-requires : goal.read_within-requires
+read_within-requires c = (tt, processes, omega arith)
 
 pub returns-in_err-end-clause-result_value : goal.returns-in_err-end-clause-result_value
 returns-in_err-end-clause-result_value c =

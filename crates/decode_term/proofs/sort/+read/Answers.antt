@@ -29,8 +29,7 @@ pub read-requires : goal.read-requires
 read-requires g t c κs within =
     let less = ap g.S.Sort.left c.to_part-first.ensures.path ∙ c.requires.1.falls _ _ in
     let falls = part_falls _ _ _ _ _ _ c.head.ensures c.in_ok-kind.was less c.loop-kind.invariant.2 c.decreases in
-    let below = part_below _ _ _ _ _ _ c.head.ensures c.in_ok-kind.was less c.loop-kind.invariant.2 in
-    (falls, (within, (c.to_part-first.ensures.still, c.requires.1, omega (arith, below))))
+    (falls, (within, (c.to_part-first.ensures.still, c.requires.1)))
 
 pub returns-in_err-i : goal.returns-in_err-i
 returns-in_err-i g t c =

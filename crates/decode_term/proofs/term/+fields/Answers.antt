@@ -13,8 +13,8 @@ returns-in_err-next t c =
     let p = err_from_is_err_and c.from_residual.result c.from_residual.ensures.1 in
     rw (p.1, p.2) (search (rules, rows, c.in_err-next.was))
 
-pub read-requires : goal.read-requires
-read-requires t c = (tt, terms, omega arith)
+pub read_within-requires : goal.read_within-requires
+read_within-requires t c = (tt, terms, omega arith)
 
 pub returns : goal.returns
 returns t c = search (rules, rows, c.in_ok-next.was)
